@@ -1,0 +1,15 @@
+-- The order of names, by their bytes.
+use Rattle.std.specs.Prelude.{ℕ, List}
+use Rattle.std.specs.Ordering.{nat_cmp}
+use Rattle.std.specs.Cmp.Lexicographic.{slice_cmp}
+use Rattle.std.specs.declared.cmp.Ordering.{Ordering}
+use Rattle.std.specs.List.Sorted.{IsStrictlySortedBy}
+use Rattle.std.specs.Map.{keys_of}
+
+-- names are compared by bytes, and the one that ends first is less
+abbrev pub name_cmp : List ℕ → List ℕ → Ordering
+name_cmp = slice_cmp nat_cmp
+
+-- each name is above the one before it
+abbrev pub HasRisingNames : {X : Type 0} → List (List ℕ × X) → Type 0
+HasRisingNames fields = IsStrictlySortedBy name_cmp (keys_of fields)
