@@ -1,2 +1,11 @@
 pub mod formers
+pub mod Change
+pub mod Depth
+pub mod FromJson
+pub mod Lookup
 pub mod Names
+pub mod Order
+pub mod Outcome
+pub mod Paths
+pub mod Tags
+pub mod Text

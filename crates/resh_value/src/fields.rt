@@ -1,5 +1,9 @@
-ghost use Rattle.std.specs.Prelude.{◌≡◌, [], length};
+ghost use Rattle.std.specs.Prelude.{◌≡◌, [], length, OnOk, OnErr, IfOk};
+ghost use Rattle.std.specs.Option.{option_copied};
+ghost use Rattle.resh_value.specs.Lookup.{field_of, with_field, without_field};
+ghost use Rattle.resh_value.specs.Names.{HasRisingNames};
 
+use crate::memory::NoMemory;
 use crate::words::Words;
 use std::alloc::Global;
 use std::marker::Model;
@@ -39,5 +43,39 @@ impl<T> Fields<T> {
         ensures { result ≡ length self.now }
     {
         self.pairs.len() as u64
+    }
+
+    /// The fields by rising name.
+    pub fn pairs(&self) -> &[(Words, T)]
+        ensures fields { result.now ≡ self.now }
+        ensures rising { HasRisingNames self.now }
+    {
+        self.pairs.as_slice()
+    }
+
+    /// The value under a name; `None` exactly where there is none.
+    pub fn get(&self, name: &Words) -> Option<&T>
+        ensures { option_copied result ≡ field_of self.now name.now }
+    {
+        None
+    }
+}
+
+impl<T: Drop> Fields<T> {
+    /// Puts a value under a name and gives the old one. Want of memory leaves the fields as they were.
+    pub fn put(&mut self, name: Words, value: T) -> Result<Option<T>, NoMemory>
+        ensures old { IfOk result (λ old. old ≡ field_of self.old name) }
+        ensures ok { OnOk result (self.new ≡ with_field self.old name value) }
+        ensures unchanged { OnErr result (self.new ≡ self.old) }
+    {
+        Err(NoMemory)
+    }
+
+    /// Takes the value under a name out; `None` exactly where there is none.
+    pub fn remove(&mut self, name: &Words) -> Option<T>
+        ensures taken { result ≡ field_of self.old name.now }
+        ensures rest { self.new ≡ without_field self.old name.now }
+    {
+        None
     }
 }

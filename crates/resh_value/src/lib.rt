@@ -1,14 +1,24 @@
-//! Values, documents and their order.
+//! Values, documents, their order and their text.
 #![tactic(auto)]
 
+mod change;
+mod copy;
+mod depth;
+mod fault;
 mod fields;
+mod json;
 mod memory;
+mod order;
 mod sequence;
 mod value;
 mod words;
 
-pub use fields::{Fields};
+pub use change::Change;
+pub use copy::Copied;
+pub use fault::ValueFault;
+pub use fields::Fields;
 pub use memory::NoMemory;
+pub use order::compare;
 pub use sequence::Sequence;
 pub use value::{Document, Items, Names, ShardId, Value};
 pub use words::Words;

@@ -1,0 +1,37 @@
+//! Changes of a document's top-level fields.
+
+ghost use Rattle.std.specs.Prelude.{◌≡◌, IsTrue, OnOk, OnErr, IfOk};
+ghost use Rattle.resh_value.specs.Change.{changed};
+
+use crate::fields::Fields;
+use crate::memory::NoMemory;
+use crate::value::{Document, Names, Value};
+use std::alloc::Global;
+
+/// Values that top-level fields get, and the names of the fields that go. No name is in both.
+#[derive(Debug, Drop)]
+pub struct Change {
+    pub assign: Document,
+    pub unset: Names,
+    ghost apart: { IsTrue (are_apart assign unset) },
+}
+
+ghost use Rattle.resh_value.specs.Change.{are_apart};
+
+impl Change {
+    pub fn copy(&self, alloc: Global) -> Result<Change, NoMemory>
+        ensures { IfOk result (λ change. change ≡ self.now) }
+    {
+        Err(NoMemory)
+    }
+}
+
+impl Fields<Value> {
+    /// Removes the fields that `change` unsets and assigns its values. Want of memory leaves the document as it was.
+    pub fn apply_change(&mut self, change: &Change) -> Result<(), NoMemory>
+        ensures ok { OnOk result (self.new ≡ changed change.now.assign change.now.unset self.old) }
+        ensures unchanged { OnErr result (self.new ≡ self.old) }
+    {
+        Err(NoMemory)
+    }
+}
