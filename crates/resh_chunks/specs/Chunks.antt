@@ -1,0 +1,78 @@
+-- Chunk maps: their faults, and the owner of a key.
+use Rattle.std.specs.Prelude.{◌≡◌, ℕ, ◌+◌, Bool, true, false, cond, not, ◌||◌, nat_lt, nat_le, List, [], ◌∷◌, length, filter, find, map, Option, Some, None}
+use Rattle.std.specs.Ordering.{is_lt}
+use Rattle.std.specs.Option.{option_or, option_map_or}
+use Rattle.std.specs.declared.cmp.Ordering.{Ordering}
+use Rattle.std.specs.declared.cmp.Ordering.TheVariants.{Less, Equal, Greater}
+use Rattle.resh_value.specs.declared.value.Value.{Value}
+use Rattle.resh_value.specs.declared.value.ShardId.{ShardId}
+use Rattle.resh_chunks.specs.Bounds.{bound_cmp, has_key}
+use Rattle.resh_chunks.specs.Pattern.{key_of}
+use Rattle.resh_chunks.specs.declared.bound.Bound.{Bound}
+use Rattle.resh_chunks.specs.declared.bound.Bound.TheVariants.{Min, At, Max}
+use Rattle.resh_chunks.specs.declared.bound.ChunkRow.{ChunkRow}
+use Rattle.resh_chunks.specs.declared.faults.ChunkFault.{ChunkFault}
+use Rattle.resh_chunks.specs.declared.faults.ChunkFault.TheVariants.{FirstNotMin, LastNotMax, EmptyRange, Gap, Overlap, UnknownShard, WrongLength}
+
+abbrev pub when : Bool → ChunkFault → Option ChunkFault
+when b fault = cond b (Some fault) None
+
+-- no value, or more than there are names
+abbrev pub has_wrong_length : ℕ → Bound → Bool
+has_wrong_length names Min = false
+has_wrong_length names (At key) = nat_lt (length key) 1 || nat_lt names (length key)
+has_wrong_length names Max = false
+
+-- where a row begins against the end of the one before
+abbrev pub joint_fault : Option Bound → ℕ → Bound → Option ChunkFault
+joint_fault None row Min = None
+joint_fault None row (At key) = Some FirstNotMin
+joint_fault None row Max = Some FirstNotMin
+joint_fault (Some before) row min = joint (bound_cmp min before)
+  where
+    joint : Ordering → Option ChunkFault
+    joint Less = Some (Overlap row)
+    joint Equal = None
+    joint Greater = Some (Gap row)
+
+-- the first fault of a row: its bounds' lengths, its shard, its joint, its range
+abbrev pub row_fault : ℕ → ℕ → Option Bound → ℕ → ChunkRow → Option ChunkFault
+row_fault names shards before i row =
+    option_or (when (has_wrong_length names row.min || has_wrong_length names row.max) (WrongLength i))
+    (option_or (when (nat_le shards row.shard.0) (UnknownShard i))
+    (option_or (joint_fault before i row.min)
+    (when (not (is_lt (bound_cmp row.min row.max))) (EmptyRange i))))
+
+-- where the rows end
+abbrev pub end_fault : Option Bound → Option ChunkFault
+end_fault None = Some FirstNotMin
+end_fault (Some Min) = Some LastNotMax
+end_fault (Some (At key)) = Some LastNotMax
+end_fault (Some Max) = None
+
+-- the first fault of the rows from the i-th on, after a row that ends at `before`
+abbrev pub rows_fault : ℕ → ℕ → Option Bound → ℕ → List ChunkRow → Option ChunkFault
+rows_fault names shards before i [] = end_fault before
+rows_fault names shards before i (row ∷ rows) = option_or (row_fault names shards before i row) (rows_fault names shards (Some row.max) (i + 1) rows)
+
+-- a chunk map: the pattern's names, the rows, and the number of shards
+pub record Chunks : Type 0 where
+  pub pattern : List (List ℕ)
+  pub rows : List ChunkRow
+  pub shards : ℕ
+
+abbrev pub chunk_fault : Chunks → Option ChunkFault
+chunk_fault map = rows_fault (length map.pattern) map.shards None 0 map.rows
+
+-- the shard of the row that has the key
+abbrev pub owner : Chunks → List Value → ℕ
+owner map key = option_map_or (λ row. row.shard.0) 0 (find (has_key key) map.rows)
+
+abbrev pub owner_of : Chunks → List (List ℕ × Value) → ℕ
+owner_of map document = owner map (key_of map.pattern document)
+
+-- the rows that have the key are one, and it is on that shard
+pub record IsOwner (map : Chunks) (key : List Value) (shard : ℕ) : Type 0 where
+  pub row : ChunkRow
+  pub only : filter (has_key key) map.rows ≡ row ∷ []
+  pub here : row.shard.0 ≡ shard

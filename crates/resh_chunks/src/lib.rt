@@ -1,0 +1,12 @@
+//! Chunk maps: which shard owns a key.
+#![tactic(auto)]
+
+mod bound;
+mod chunk_map;
+mod faults;
+mod pattern;
+
+pub use bound::{Bound, ChunkRow, Key};
+pub use chunk_map::ChunkMap;
+pub use faults::{ChunkFault, PatternFault};
+pub use pattern::KeyPattern;
