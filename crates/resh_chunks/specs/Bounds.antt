@@ -1,5 +1,5 @@
 -- Keys, bounds and chunks in order.
-use Rattle.std.specs.Prelude.{ℕ, Bool, true, false, not, ◌&&◌, List}
+use Rattle.std.specs.Prelude.{◌≡◌, ℕ, ◌<◌, ◌≤◌, Bool, true, false, not, ◌&&◌, List, length, slice_get, Some}
 use Rattle.std.specs.Ordering.{is_lt, is_gt}
 use Rattle.std.specs.Cmp.Lexicographic.{slice_cmp}
 use Rattle.std.specs.declared.cmp.Ordering.{Ordering}
@@ -29,3 +29,9 @@ bound_cmp Max Max = Equal
 -- the lower bound isn't above the key, and the upper one is
 abbrev pub has_key : List Value → ChunkRow → Bool
 has_key key row = not (is_gt (bound_cmp row.min (At key))) && is_lt (bound_cmp (At key) row.max)
+
+-- the row at a place ends above the key, or no row does, and each row before it ends at or below the key
+pub record IsFirstAbove (key : List Value) (rows : List ChunkRow) (place : ℕ) : Type 0 where
+  pub within : place ≤ length rows
+  pub below : (k : ℕ) (row : ChunkRow) → k < place → slice_get rows k ≡ Some row → is_lt (bound_cmp (At key) row.max) ≡ false
+  pub above : (row : ChunkRow) → slice_get rows place ≡ Some row → is_lt (bound_cmp (At key) row.max) ≡ true

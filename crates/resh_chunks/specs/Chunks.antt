@@ -1,16 +1,20 @@
 -- Chunk maps: their faults, and the owner of a key.
-use Rattle.std.specs.Prelude.{◌≡◌, ℕ, ◌+◌, Bool, true, false, cond, not, ◌||◌, nat_lt, nat_le, List, [], ◌∷◌, length, filter, find, map, Option, Some, None}
-use Rattle.std.specs.Ordering.{is_lt}
+use Rattle.std.specs.Prelude.{◌≡◌, ℕ, ◌+◌, Bool, true, false, cond, not, ◌||◌, nat_lt, nat_le, List, [], ◌∷◌, length, filter, find, Option, Some, None, refl}
+use Rattle.std.specs.Ordering.{is_lt, is_eq}
+use Rattle.std.specs.List.{list_all}
 use Rattle.std.specs.Option.{option_or, option_map_or}
+use Rattle.std.specs.Coded.{Coded, code_by, coded×, coded_list, coded_ℕ}
 use Rattle.std.specs.declared.cmp.Ordering.{Ordering}
 use Rattle.std.specs.declared.cmp.Ordering.TheVariants.{Less, Equal, Greater}
 use Rattle.resh_value.specs.declared.value.Value.{Value}
 use Rattle.resh_value.specs.declared.value.ShardId.{ShardId}
 use Rattle.resh_chunks.specs.Bounds.{bound_cmp, has_key}
-use Rattle.resh_chunks.specs.Pattern.{key_of}
+use Rattle.resh_value.specs.Order.{compare_of}
+use Rattle.resh_chunks.specs.Pattern.{key_of, value_under}
 use Rattle.resh_chunks.specs.declared.bound.Bound.{Bound}
 use Rattle.resh_chunks.specs.declared.bound.Bound.TheVariants.{Min, At, Max}
 use Rattle.resh_chunks.specs.declared.bound.ChunkRow.{ChunkRow}
+use Rattle.resh_chunks.specs.contracts.bound.ChunkRow as row
 use Rattle.resh_chunks.specs.declared.faults.ChunkFault.{ChunkFault}
 use Rattle.resh_chunks.specs.declared.faults.ChunkFault.TheVariants.{FirstNotMin, LastNotMax, EmptyRange, Gap, Overlap, UnknownShard, WrongLength}
 
@@ -61,18 +65,28 @@ pub record Chunks : Type 0 where
   pub rows : List ChunkRow
   pub shards : ℕ
 
+-- a chunk map is stored as the tuple of its parts
+abbrev pub chunks_code : Coded Chunks
+chunks_code =
+    code_by (List (List ℕ) × (List ChunkRow × ℕ)) (coded× (coded_list (coded_list coded_ℕ)) (coded× (coded_list row.the_row.coded) coded_ℕ))
+    (λ c. (c.pattern, (c.rows, c.shards))) (λ p. record { pattern = p.0; rows = p.1.0; shards = p.1.1 }) (λ _. refl)
+
 abbrev pub chunk_fault : Chunks → Option ChunkFault
-chunk_fault map = rows_fault (length map.pattern) map.shards None 0 map.rows
+chunk_fault chunks = rows_fault (length chunks.pattern) chunks.shards None 0 chunks.rows
 
 -- the shard of the row that has the key
 abbrev pub owner : Chunks → List Value → ℕ
-owner map key = option_map_or (λ row. row.shard.0) 0 (find (has_key key) map.rows)
+owner chunks key = option_map_or (λ row. row.shard.0) (find (has_key key) chunks.rows) 0
 
 abbrev pub owner_of : Chunks → List (List ℕ × Value) → ℕ
-owner_of map document = owner map (key_of map.pattern document)
+owner_of chunks document = owner chunks (key_of chunks.pattern document)
 
 -- the rows that have the key are one, and it is on that shard
-pub record IsOwner (map : Chunks) (key : List Value) (shard : ℕ) : Type 0 where
+pub record IsOwner (chunks : Chunks) (key : List Value) (shard : ℕ) : Type 0 where
   pub row : ChunkRow
-  pub only : filter (has_key key) map.rows ≡ row ∷ []
+  pub only : filter (has_key key) chunks.rows ≡ row ∷ []
   pub here : row.shard.0 ≡ shard
+
+-- every field of the pattern is equal in both documents
+abbrev pub same_key : List (List ℕ) → List (List ℕ × Value) → List (List ℕ × Value) → Bool
+same_key pattern a b = list_all (λ name. is_eq (compare_of (value_under a name) (value_under b name))) pattern

@@ -16,6 +16,10 @@ first_repeat before (name ∷ names) = cond (list_any (same_name name) before) (
 abbrev pub pattern_fault : List (List ℕ) → Option PatternFault
 pattern_fault names = cond (nat_lt (length names) 1 || nat_lt 3 (length names)) (Some (Count (length names))) (option_map Repeated (first_repeat [] names))
 
--- the values that a document has under the pattern's names, null for a missing one
+-- what a document has under a name, null where it has nothing
+abbrev pub value_under : List (List ℕ × Value) → List ℕ → Value
+value_under document name = unwrap_or (field_of document name) Null
+
+-- the values that a document has under the pattern's names
 abbrev pub key_of : List (List ℕ) → List (List ℕ × Value) → List Value
-key_of pattern document = map (λ name. unwrap_or (field_of document name) Null) pattern
+key_of pattern document = map (value_under document) pattern

@@ -1,8 +1,9 @@
-ghost use Rattle.std.specs.Prelude.{◌≡◌, None, IfOk, MatchResult, Some};
+ghost use Rattle.std.specs.Prelude.{◌≡◌, None, Some, IfOk, MatchResult};
+ghost use Rattle.resh_value.specs.Names.{same_name};
 ghost use Rattle.resh_chunks.specs.Pattern.{pattern_fault};
 
 use crate::faults::PatternFault;
-use resh_value::{Names, NoMemory};
+use resh_value::{Names, NoMemory, Words};
 use std::marker::Model;
 
 /// The names of a shard key's fields, one to three and distinct, which contracts see as the list of them.
@@ -28,11 +29,15 @@ impl KeyPattern {
     pub fn new(names: Names) -> Result<KeyPattern, PatternFault>
         ensures { MatchResult result (λ p. (p ≡ names) × (pattern_fault names ≡ None)) (λ f. pattern_fault names ≡ Some f) }
     {
-        Err(PatternFault::Count { got: 0 })
+        match fault_of(names.as_slice()) {
+            Some(fault) => Err(fault),
+            None => Ok(KeyPattern { names }),
+        }
     }
 
     pub fn names(&self) -> &Names
-        ensures { result.now ≡ self.now }
+        ensures names { result.now ≡ self.now }
+        ensures valid { pattern_fault self.now ≡ None }
     {
         &self.names
     }
@@ -44,4 +49,36 @@ impl KeyPattern {
             names: self.names.copy()?,
         })
     }
+}
+
+fn fault_of(names: &[Words]) -> Option<PatternFault>
+    ensures { result ≡ pattern_fault names.now }
+{
+    match names {
+        [_] => None,
+        [first, second] => {
+            if same(second, first) {
+                return Some(PatternFault::Repeated { place: 1 });
+            }
+            None
+        }
+        [first, second, third] => {
+            if same(second, first) {
+                return Some(PatternFault::Repeated { place: 1 });
+            }
+            if same(third, first) || same(third, second) {
+                return Some(PatternFault::Repeated { place: 2 });
+            }
+            None
+        }
+        others => Some(PatternFault::Count {
+            got: others.len() as u64,
+        }),
+    }
+}
+
+fn same(a: &Words, b: &Words) -> bool
+    ensures { result ≡ same_name a.now b.now }
+{
+    a.as_bytes() == b.as_bytes()
 }
