@@ -33,6 +33,7 @@ impl Keyed for Key {
 }
 
 /// A document's key under a pattern, read where it is wanted.
+#[derive(Drop)]
 pub(crate) struct DocumentKey<'a> {
     pub(crate) pattern: &'a Names,
     pub(crate) document: &'a Document,
