@@ -1,0 +1,187 @@
+-- The cluster file: which setup a JSON value is, or its first fault.
+use Rattle.std.specs.Prelude.{◌≡◌, ℕ, ◌+◌, Bool, true, false, cond, not, ◌&&◌, ◌||◌, ◌==◌, nat_lt, nat_le, is_some, List, [], ◌∷◌, ◌++◌, length, slice_index, position, codes, Option, Some, None, Result, Ok, Err}
+use Rattle.std.specs.List.{list_all, list_any}
+use Rattle.std.specs.Char.{is_ascii_digit, is_in_range}
+use Rattle.std.specs.Str.{IsUtf8}
+use Rattle.serde_json.specs.Data.{Data, null, boolean, number, string, array, object, Members}
+use Rattle.serde_json.specs.Read.{read_text}
+use Rattle.resh_value.specs.Names.{same_name}
+use Rattle.resh_value.specs.Lookup.{field_of}
+use Rattle.std.specs.Ordering.{is_eq}
+use Rattle.resh_value.specs.Order.{compare_of, kind}
+use Rattle.resh_value.specs.Outcome.{and_then, in_err}
+use Rattle.resh_value.specs.FromJson.{value_of, document_of}
+use Rattle.resh_value.specs.Text.{document_text}
+use Rattle.resh_value.specs.declared.value.Value.{Value}
+use Rattle.resh_value.specs.declared.value.Value.TheVariants.{Null}
+use Rattle.resh_value.specs.declared.value.ShardId.{ShardId}
+use Rattle.resh_chunks.specs.Pattern.{value_under}
+use Rattle.resh_chunks.specs.Chunks.{Chunks, chunk_fault, owner_of}
+use Rattle.resh_chunks.specs.declared.bound.Bound.{Bound}
+use Rattle.resh_chunks.specs.declared.bound.Bound.TheVariants.{Min, At, Max}
+use Rattle.resh_chunks.specs.declared.bound.ChunkRow.{ChunkRow}
+use Rattle.resh_chunks.specs.declared.faults.ChunkFault.{ChunkFault}
+use Rattle.resh_setup.specs.declared.setup.Setup.{Setup}
+use Rattle.resh_setup.specs.declared.fault.SetupFault.{SetupFault}
+use Rattle.resh_setup.specs.declared.fault.SetupFault.TheVariants.{NotJson, WrongKind, UnknownName, Value as InValue, Chunks as InChunks, SameId, NoId, OverLimit}
+use Rattle.resh_config.specs.Walk.{Read, at_step, row_with, field, field_or, number_in, text_in, count, list_in, some_of}
+
+-- names of shards and clients have 1 to 16 of `a` to `z`, `0` to `9` and `_`
+abbrev pub is_node_byte : ℕ → Bool
+is_node_byte b = is_in_range 97 122 b || is_ascii_digit b || (b == 95)
+
+abbrev pub is_node_name : List ℕ → Bool
+is_node_name name = nat_lt 0 (length name) && nat_le (length name) 16 && list_all is_node_byte name
+
+abbrev pub accept : {A : Type 0} → Bool → A → Read A
+accept b a = cond b (Ok a) (Err (WrongKind []))
+
+-- a shard's name: none is `coordinator`, and none comes twice
+abbrev pub shard_name_in : List (List ℕ) → Data → Read (List ℕ)
+shard_name_in before d = and_then (λ name. accept (is_node_name name && not (same_name name (codes "coordinator")) && not (list_any (same_name name) before)) name) (text_in d)
+
+abbrev pub shards_in : Data → Read (List (List ℕ))
+shards_in d = and_then some_of (list_in 8 shard_name_in d)
+
+-- a top-level name: not empty, without a dot, not beginning with `$`
+abbrev pub is_field_name : List ℕ → Bool
+is_field_name name = nat_lt 0 (length name) && not (slice_index name 0 == 36) && list_all (λ b. not (b == 46)) name
+
+abbrev pub key_name_in : List (List ℕ) → Data → Read (List ℕ)
+key_name_in before d = and_then (λ name. accept (is_field_name name && not (list_any (same_name name) before)) name) (text_in d)
+
+abbrev pub key_in : Data → Read (List (List ℕ))
+key_in d = and_then some_of (list_in 3 key_name_in d)
+
+-- a chunk's bound: `"MinKey"`, `"MaxKey"` or the values that a key begins with
+abbrev pub bound_value_in : List Value → Data → Read Value
+bound_value_in before d = in_err InValue (value_of d)
+
+abbrev pub end_named : List ℕ → Read Bound
+end_named text = cond (same_name text (codes "MinKey")) (Ok Min) (cond (same_name text (codes "MaxKey")) (Ok Max) (Err (WrongKind [])))
+
+abbrev pub bound_in : Data → Read Bound
+bound_in (string text) = end_named text
+bound_in (array ds) = and_then (λ key. Ok (At key)) (list_in (count ds) bound_value_in (array ds))
+bound_in null = Err (WrongKind [])
+bound_in (boolean b) = Err (WrongKind [])
+bound_in (number n) = Err (WrongKind [])
+bound_in (object ds) = Err (WrongKind [])
+
+-- the number of a shard that is there
+abbrev pub found_shard : Option ℕ → Read ShardId
+found_shard None = Err (UnknownName [])
+found_shard (Some s) = Ok (record { 0 = s })
+
+abbrev pub shard_in : List (List ℕ) → Data → Read ShardId
+shard_in shards d = and_then (λ name. cond (is_node_name name) (found_shard (position (same_name name) shards)) (Err (WrongKind []))) (text_in d)
+
+abbrev pub chunk_row_in : List (List ℕ) → List ChunkRow → Data → Read ChunkRow
+chunk_row_in shards before d =
+    and_then (λ ds. and_then (λ min. and_then (λ max. and_then (λ shard. Ok (record { min = min; max = max; shard = shard }))
+    (field ds (codes "shard") (shard_in shards)))
+    (field ds (codes "max") bound_in))
+    (field ds (codes "min") bound_in))
+    (row_with (codes "min" ∷ codes "max" ∷ codes "shard" ∷ []) d)
+
+abbrev pub tested_chunks : Chunks → Option ChunkFault → Read Chunks
+tested_chunks chunks None = Ok chunks
+tested_chunks chunks (Some fault) = Err (InChunks [] fault)
+
+-- a chunk map over a key, tested after its rows
+abbrev pub chunks_in : List (List ℕ) → List (List ℕ) → Data → Read Chunks
+chunks_in shards key d =
+    and_then (λ rows. let chunks : Chunks = record { pattern = key; rows = rows; shards = length shards } in tested_chunks chunks (chunk_fault chunks))
+    (list_in 64 (chunk_row_in shards) d)
+
+abbrev pub Document : Type 0
+Document = List (List ℕ × Value)
+
+-- an `_id` is there, and is no array
+abbrev pub is_id : Option Value → Bool
+is_id None = false
+is_id (Some v) = not (kind v == 4)
+
+abbrev pub with_rules : Document → Read Document
+with_rules document =
+    cond (is_id (field_of document (codes "_id")))
+    (cond (nat_lt 16384 (length (document_text document))) (Err (OverLimit [] 16384)) (Ok document))
+    (Err (NoId []))
+
+abbrev pub document_in : List Document → Data → Read Document
+document_in before d = and_then with_rules (in_err InValue (document_of d))
+
+-- two documents of one shard and one `_id`
+abbrev pub same_place : Chunks → Document → Document → Bool
+same_place chunks a b = (owner_of chunks a == owner_of chunks b) && is_eq (compare_of (value_under a (codes "_id")) (value_under b (codes "_id")))
+
+-- the first row whose shard and `_id` an earlier row has, from the rows that `before` precede
+abbrev pub first_same : Chunks → List Document → List Document → Option ℕ
+first_same chunks before [] = None
+first_same chunks before (d ∷ ds) = cond (list_any (same_place chunks d) before) (Some (length before)) (first_same chunks (before ++ d ∷ []) ds)
+
+abbrev pub distinct_only : Option ℕ → List Document → Read (List Document)
+distinct_only None documents = Ok documents
+distinct_only (Some row) documents = Err (SameId row)
+
+abbrev pub documents_in : Chunks → Data → Read (List Document)
+documents_in chunks d = and_then (λ documents. distinct_only (first_same chunks [] documents) documents) (list_in 100000 document_in d)
+
+-- whether a list that isn't read yet has items
+abbrev pub has_items : ℕ → Data → Read Bool
+has_items limit (array ds) = cond (nat_lt limit (count ds)) (Err (OverLimit [] limit)) (Ok (nat_lt 0 (count ds)))
+has_items limit null = Err (WrongKind [])
+has_items limit (boolean b) = Err (WrongKind [])
+has_items limit (number n) = Err (WrongKind [])
+has_items limit (string text) = Err (WrongKind [])
+has_items limit (object ds) = Err (WrongKind [])
+
+abbrev pub root_names : List (List ℕ)
+root_names = codes "version" ∷ codes "shards" ∷ codes "oldKey" ∷ codes "newKey" ∷ codes "oldChunks" ∷ codes "newChunks" ∷ codes "documents" ∷ codes "clients" ∷ codes "lanes" ∷ codes "batch" ∷ codes "steps" ∷ codes "plan" ∷ []
+
+-- the keys and the chunk maps of a cluster file
+pub record Maps : Type 0 where
+  pub shards : List (List ℕ)
+  pub old_map : Chunks
+  pub new_map : Chunks
+
+abbrev pub maps_in : Members → Read Maps
+maps_in ds =
+    and_then (λ version. and_then (λ shards. and_then (λ old_key. and_then (λ new_key. and_then (λ old_map. and_then (λ new_map.
+    Ok (record { shards = shards; old_map = old_map; new_map = new_map }))
+    (field ds (codes "newChunks") (chunks_in shards new_key)))
+    (field ds (codes "oldChunks") (chunks_in shards old_key)))
+    (field ds (codes "newKey") key_in))
+    (field ds (codes "oldKey") key_in))
+    (field ds (codes "shards") shards_in))
+    (field ds (codes "version") (number_in 1 1))
+
+-- the fields in their order, after the maps
+abbrev pub rest_in : Maps → Members → Read Setup
+rest_in maps ds =
+    and_then (λ documents. and_then (λ clients. and_then (λ lanes. and_then (λ batch. and_then (λ steps. and_then (λ plan.
+    Ok (record { shards = maps.shards; old_map = maps.old_map; new_map = maps.new_map; documents = documents; lanes = lanes; batch = batch; unbuilt = clients || steps || plan }))
+    (field_or false ds (codes "plan") (has_items 1000)))
+    (field_or false ds (codes "steps") (has_items 100000)))
+    (field_or 500 ds (codes "batch") (number_in 1 500)))
+    (field_or 4 ds (codes "lanes") (number_in 1 16)))
+    (field_or false ds (codes "clients") (has_items 16)))
+    (field ds (codes "documents") (documents_in maps.old_map))
+
+abbrev pub setup_in : Data → Read Setup
+setup_in d = and_then (λ ds. and_then (λ maps. rest_in maps ds) (maps_in ds)) (row_with root_names d)
+
+-- the bytes are UTF-8 and JSON
+abbrev pub IsReading : List ℕ → Data → Type 0
+IsReading bytes d = IsUtf8 bytes × (read_text bytes ≡ Some d)
+
+-- what the bytes are: what their reading is, or no JSON
+pub data IsOutcome (bytes : List ℕ) (outcome : Read Setup) : Type 0 where
+  read : (d : Data) → IsReading bytes d → setup_in d ≡ outcome → IsOutcome bytes outcome
+  no_reading : (IsUtf8 bytes → read_text bytes ≡ None) → outcome ≡ Err NotJson → IsOutcome bytes outcome
+
+abbrev pub IsSetup : List ℕ → Setup → Type 0
+IsSetup bytes setup = IsOutcome bytes (Ok setup)
+
+abbrev pub IsRefused : List ℕ → SetupFault → Type 0
+IsRefused bytes fault = IsOutcome bytes (Err fault)

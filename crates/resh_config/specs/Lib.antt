@@ -1,0 +1,2 @@
+pub mod ClusterFile
+pub mod Walk

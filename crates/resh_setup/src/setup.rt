@@ -1,0 +1,22 @@
+use resh_chunks::ChunkMap;
+use resh_value::{Document, Names, Sequence};
+
+/// A list of documents.
+pub type Documents = Sequence<Document>;
+/// The documents of each shard.
+pub type Holdings = Sequence<Documents>;
+
+/// What a cluster file says.
+#[derive(Debug, Drop)]
+pub struct Setup {
+    pub shards: Names,
+    pub old_map: ChunkMap,
+    pub new_map: ChunkMap,
+    pub documents: Documents,
+    /// The writers of a recipient, 1 to 16.
+    pub lanes: u32,
+    /// The greatest number of entries of a batch, 1 to 500.
+    pub batch: u32,
+    /// Whether the file has clients, steps or a plan, none of which is built yet.
+    pub unbuilt: bool,
+}
