@@ -3,6 +3,7 @@ use Rattle.std.specs.Prelude.{ℕ, List}
 use Rattle.std.specs.Ordering.{nat_cmp, int_cmp, bool_cmp, ordering_then}
 use Rattle.std.specs.Cmp.Lexicographic.{slice_cmp}
 use Rattle.std.specs.declared.cmp.Ordering.{Ordering}
+use Rattle.std.specs.declared.cmp.Ordering.TheVariants.{Equal}
 use Rattle.resh_value.specs.Names.{name_cmp}
 use Rattle.resh_value.specs.declared.value.Value.{Value, out-Value, fold-Value}
 use Rattle.resh_value.specs.declared.value.Value.TheOpen.{Value-F}
@@ -21,28 +22,39 @@ rank (Value-F.Date n) = 7
 abbrev pub kind : Value → ℕ
 kind v = rank (out-Value v)
 
--- what another value is compared with: a kind, and how it compares
+-- two values of one kind are compared by what they hold, and the shorter text, document or array is less
+abbrev pub content : {A : Type 0} → (List ℕ × A → List ℕ × Value → Ordering) → (A → Value → Ordering) → Value-F A → Value-F Value → Ordering
+content by_field by_item (Value-F.Int m) (Value-F.Int n) = int_cmp m n
+content by_field by_item (Value-F.Text s) (Value-F.Text t) = name_cmp s t
+content by_field by_item (Value-F.Doc fs) (Value-F.Doc gs) = slice_cmp by_field fs gs
+content by_field by_item (Value-F.List xs) (Value-F.List ys) = slice_cmp by_item xs ys
+content by_field by_item (Value-F.Oid s) (Value-F.Oid t) = slice_cmp nat_cmp s t
+content by_field by_item (Value-F.Bool a) (Value-F.Bool b) = bool_cmp a b
+content by_field by_item (Value-F.Date m) (Value-F.Date n) = int_cmp m n
+content by_field by_item x y = Equal
+
+-- a value, as what others are compared with: its kind, and how it compares
 pub record Judge : Type 0 where
   pub kind : ℕ
   pub against : Value → Ordering
 
--- documents are compared pair by pair: kind, then name, then value
+-- fields are compared by kind, then by name, then by value
 abbrev pub field_against : List ℕ × Judge → List ℕ × Value → Ordering
 field_against f g = ordering_then (nat_cmp f.1.kind (kind g.1)) (ordering_then (name_cmp f.0 g.0) (f.1.against g.1))
 
--- two values of one kind are compared by what they hold, the shorter list first, and others by their kinds
-abbrev pub against : Value-F Judge → Value-F Value → Ordering
-against (Value-F.Int m) (Value-F.Int n) = int_cmp m n
-against (Value-F.Text s) (Value-F.Text t) = name_cmp s t
-against (Value-F.Doc fs) (Value-F.Doc gs) = slice_cmp field_against fs gs
-against (Value-F.List xs) (Value-F.List ys) = slice_cmp (λ x y. x.against y) xs ys
-against (Value-F.Oid s) (Value-F.Oid t) = slice_cmp nat_cmp s t
-against (Value-F.Bool a) (Value-F.Bool b) = bool_cmp a b
-against (Value-F.Date m) (Value-F.Date n) = int_cmp m n
-against x y = nat_cmp (rank x) (rank y)
-
+-- values are compared by kind, then by content
 abbrev pub judge_step : Value-F Judge → Judge
-judge_step x = record { kind = rank x; against = λ v. against x (out-Value v) }
+judge_step x = record {
+  kind = rank x;
+  against = λ v. ordering_then (nat_cmp (rank x) (kind v)) (content field_against (λ j w. j.against w) x (out-Value v));
+}
 
 unfoldable pub compare_of : Value → Value → Ordering
 compare_of v = (fold-Value Judge judge_step v).against
+
+-- the same of values that stand inside
+abbrev pub compare_fields : List ℕ × Value → List ℕ × Value → Ordering
+compare_fields f g = ordering_then (nat_cmp (kind f.1) (kind g.1)) (ordering_then (name_cmp f.0 g.0) (compare_of f.1 g.1))
+
+abbrev pub content_of : Value → Value → Ordering
+content_of a b = content compare_fields compare_of (out-Value a) (out-Value b)

@@ -25,22 +25,3 @@ pub type Document = Fields<Value>;
 pub type Items = Sequence<Value>;
 /// A list of names.
 pub type Names = Sequence<Words>;
-
-ghost use Rattle.std.specs.Prelude.{◌≡◌};
-ghost use Rattle.resh_value.specs.Order.{kind};
-
-/// The place of a value's kind among the kinds.
-pub fn kind_of(value: &Value) -> u8
-    ensures { result ≡ kind value.now }
-{
-    match value {
-        Value::Null => 0,
-        Value::Int(_) => 1,
-        Value::Text(_) => 2,
-        Value::Doc(_) => 3,
-        Value::List(_) => 4,
-        Value::Oid(_) => 5,
-        Value::Bool(_) => 6,
-        Value::Date(_) => 7,
-    }
-}

@@ -1,0 +1,2 @@
+mod OrderFolds
+mod OrderEquations
