@@ -1,2 +1,5 @@
-mod OrderFolds
 mod OrderEquations
+mod OrderFolds
+pub mod FieldSteps
+pub mod Names
+pub mod Standing

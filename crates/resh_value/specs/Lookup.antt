@@ -1,5 +1,5 @@
 -- A document's fields by name.
-use Rattle.std.specs.Prelude.{ℕ, List, [], ◌∷◌, Option}
+use Rattle.std.specs.Prelude.{◌≡◌, ℕ, ◌<◌, ◌≤◌, List, Option, Some, None, length, slice_get, slice_set, insert, remove}
 use Rattle.std.specs.BTreeMap.{is_at, insert_entry}
 use Rattle.std.specs.Map.{lookup, remove_entry}
 use Rattle.resh_value.specs.Names.{name_cmp}
@@ -14,3 +14,18 @@ with_field fields name value = insert_entry name_cmp fields name value
 
 abbrev pub without_field : {X : Type 0} → List (List ℕ × X) → List ℕ → List (List ℕ × X)
 without_field fields name = remove_entry (is_at (name_cmp name)) fields
+
+-- a name's field stands at a place: it is found, replaced and removed there
+pub record StandsAt {X : Type 0} (fields : List (List ℕ × X)) (name : List ℕ) (place : ℕ) : Type 0 where
+  pub within : place < length fields
+  pub found : (value : X) → slice_get fields place ≡ Some (name, value) → field_of fields name ≡ Some value
+  pub named : (other : List ℕ) (value : X) → slice_get fields place ≡ Some (other, value) → other ≡ name
+  pub replaced : (value : X) → slice_set fields place (name, value) ≡ with_field fields name value
+  pub removed : remove fields place ≡ without_field fields name
+
+-- no field has the name, and a new one goes to a place
+pub record GoesTo {X : Type 0} (fields : List (List ℕ × X)) (name : List ℕ) (place : ℕ) : Type 0 where
+  pub within : place ≤ length fields
+  pub missing : field_of fields name ≡ None
+  pub inserted : (value : X) → insert fields place (name, value) ≡ with_field fields name value
+  pub kept : fields ≡ without_field fields name

@@ -4,9 +4,11 @@ ghost use Rattle.resh_value.specs.Lookup.{field_of, with_field, without_field};
 ghost use Rattle.resh_value.specs.Names.{HasRisingNames};
 
 use crate::memory::NoMemory;
+use crate::places::place_of;
 use crate::words::Words;
 use std::alloc::Global;
 use std::marker::Model;
+use std::mem::replace;
 
 /// Values under names, by rising name, which contracts see as the list of (name, value).
 #[derive(Debug, Drop)]
@@ -57,7 +59,18 @@ impl<T> Fields<T> {
     pub fn get(&self, name: &Words) -> Option<&T>
         ensures { option_copied result ≡ field_of self.now name.now }
     {
-        None
+        self.get_by(name.as_str())
+    }
+
+    /// The value under a name that is given as a text.
+    pub fn get_by(&self, name: &str) -> Option<&T>
+        ensures { option_copied result ≡ field_of self.now name.now }
+    {
+        let pairs = self.pairs.as_slice();
+        match place_of(pairs, name.as_bytes()) {
+            Ok(place) => Some(&pairs[place].1),
+            Err(_) => None,
+        }
     }
 }
 
@@ -68,7 +81,7 @@ impl<T: Drop> Fields<T> {
         ensures ok { OnOk result (self.new ≡ with_field self.old name value) }
         ensures unchanged { OnErr result (self.new ≡ self.old) }
     {
-        Err(NoMemory)
+        put_pair(&mut self.pairs, name, value)
     }
 
     /// Takes the value under a name out; `None` exactly where there is none.
@@ -76,6 +89,41 @@ impl<T: Drop> Fields<T> {
         ensures taken { result ≡ field_of self.old name.now }
         ensures rest { self.new ≡ without_field self.old name.now }
     {
-        None
+        take_pair(&mut self.pairs, name)
+    }
+}
+
+fn put_pair<T: Drop>(
+    pairs: &mut Vec<(Words, T)>,
+    name: Words,
+    value: T,
+) -> Result<Option<T>, NoMemory>
+    requires { HasRisingNames pairs.old.items }
+    ensures old { IfOk result (λ old. old ≡ field_of pairs.old.items name) }
+    ensures ok { OnOk result (pairs.new.items ≡ with_field pairs.old.items name value) }
+    ensures unchanged { OnErr result (pairs.new.items ≡ pairs.old.items) }
+    ensures rising { HasRisingNames pairs.new.items }
+{
+    match place_of(pairs.as_slice(), name.as_bytes()) {
+        Ok(place) => Ok(Some(replace(&mut pairs[place].1, value))),
+        Err(place) => {
+            pairs.insert(place, (name, value))?;
+            Ok(None)
+        }
+    }
+}
+
+fn take_pair<T: Drop>(pairs: &mut Vec<(Words, T)>, name: &Words) -> Option<T>
+    requires { HasRisingNames pairs.old.items }
+    ensures taken { result ≡ field_of pairs.old.items name.now }
+    ensures rest { pairs.new.items ≡ without_field pairs.old.items name.now }
+    ensures rising { HasRisingNames pairs.new.items }
+{
+    match place_of(pairs.as_slice(), name.as_bytes()) {
+        Ok(place) => {
+            let (_, value) = pairs.remove(place);
+            Some(value)
+        }
+        Err(_) => None,
     }
 }

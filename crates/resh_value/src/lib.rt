@@ -9,6 +9,7 @@ mod fields;
 mod json;
 mod memory;
 mod order;
+mod places;
 mod sequence;
 mod value;
 mod words;
