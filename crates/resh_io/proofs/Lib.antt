@@ -1,0 +1,3 @@
+pub mod MemoryBytes
+pub mod SentBytes
+pub mod TakenBytes

@@ -1,0 +1,5 @@
+pub mod Causes
+pub mod Memory
+pub mod Reading
+pub mod Standard
+pub mod Writing
