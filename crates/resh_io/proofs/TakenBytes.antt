@@ -1,11 +1,10 @@
 -- What one more read adds to a whole reading.
-use Rattle.std.proofs.Common.{◌≡◌, ℕ, ◌+◌, ◌-◌, ◌≤◌, List, ◌++◌, [], length, take, drop, None, Some, Ok, Err, sym, ap, subst, ◌∙◌, arith, append-nil, length-append}
+use Rattle.std.proofs.Common.{◌≡◌, ℕ, ◌+◌, ◌≤◌, List, ◌++◌, length, drop, None, Some, Err, sym, ap, ◌∙◌, arith, length-append}
 use Rattle.std.proofs.Math.Seq.{drop-append_seam}
-use Rattle.std.proofs.Math.ListN.{drop_of_length-le}
 use Rattle.std.specs.declared.option.Option.{Option}
-use Rattle.std.specs.Io.KnownBytes.{Consumes, IsAtEnd}
+use Rattle.std.specs.Io.KnownBytes.{Consumes}
 use Rattle.std.proofs.KnownBytes.{Consumes-trans, Consumes-kept}
-use Rattle.resh_io.specs.Reading.{GivesAll, GivesFirst, ReadsAll, ReadsSome}
+use Rattle.resh_io.specs.Reading.{GivesFirst, ReadsAll, ReadsSome}
 use Rattle.resh_io.specs.declared.reading.ReadAllFault.{ReadAllFault}
 use Rattle.resh_io.specs.declared.reading.ReadAllFault.TheVariants.{Read, TooLong, NoMemory}
 

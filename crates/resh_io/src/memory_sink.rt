@@ -1,8 +1,9 @@
 // A sink that keeps its bytes in memory.
-ghost use Rattle.std.specs.Prelude.{◌≡◌, ◌<◌, ◌++◌, [], min, length, take, Some, IsErr, IfOk, OnErr, Contains};
+ghost use Rattle.std.specs.Prelude.{◌≡◌, ◌<◌, [], min, length, take, Some, IsErr, IfOk, OnErr, Contains};
 ghost use Rattle.std.specs.Io.{WritesAtMost};
 ghost use Rattle.std.specs.Io.KnownBytes.{WriteAppends};
 ghost use Rattle.resh_io.specs.Causes.{HasCause, next_count};
+ghost use Rattle.resh_io.specs.Memory.{after_write, after_failed_write};
 ghost use Rattle.resh_io.specs.Writing.{TakesSome};
 
 use crate::{Sink, WriteFailed};
@@ -10,7 +11,7 @@ use std::alloc::Global;
 use std::marker::Model;
 
 /// Keeps what is written, takes at most so many bytes in a call, and fails at the calls that are listed, counted
-/// from 1. A call that finds no memory fails too, and counts as a fault.
+/// from 1. The count of calls stops at 2^64 - 1. A call that finds no memory fails too.
 #[derive(Drop)]
 pub struct MemorySink {
     bytes: Vec<u8>,
@@ -26,7 +27,13 @@ impl Model for MemorySink {
 
     ghost Value = { SinkState };
 
-    ghost view = { λ s. record { bytes = s.bytes.items; failing = s.failing.items; most = s.most; calls = s.calls; faults = s.faults } };
+    ghost view = { λ s. record {
+      bytes = s.bytes.items;
+      failing = s.failing.items;
+      most = s.most;
+      calls = s.calls;
+      faults = s.faults;
+    } };
 
     ghost invariant = { λ s. 0 < s.most };
 }
@@ -34,7 +41,8 @@ impl Model for MemorySink {
 impl MemorySink {
     pub fn new(alloc: Global, failing: Vec<u64>, most: usize) -> Self
         requires { 0 < most }
-        ensures { result ≡ record { bytes = []; failing = failing.items; most = most; calls = 0; faults = 0 } }
+        ensures { result
+            ≡ record { bytes = []; failing = failing.items; most = most; calls = 0; faults = 0 } }
     {
         MemorySink {
             bytes: Vec::new(alloc),
@@ -73,11 +81,11 @@ impl Sink for MemorySink {
 
         // It fails at the calls that are listed, and else only for want of memory.
         ensures fails { Contains self.old.failing (next_count self.old.calls) → IsErr result }
-        ensures err { OnErr result (self.new ≡ record self.old { calls = next_count self.old.calls; faults = next_count self.old.faults }) }
+        ensures err { OnErr result (self.new ≡ after_failed_write self.old) }
 
         // Another call takes as many bytes as it may.
         ensures count { IfOk result (λ n. n ≡ min self.old.most (length piece.now)) }
-        ensures ok { IfOk result (λ n. self.new ≡ record self.old { calls = next_count self.old.calls; bytes = self.old.bytes ++ take n piece.now }) }
+        ensures ok { IfOk result (λ n. self.new ≡ after_write self.old (take n piece.now)) }
     {
         self.calls = self.calls.saturating_add(1);
         let count = self.most.min(piece.len());

@@ -1,13 +1,15 @@
 // A source over bytes in memory.
-ghost use Rattle.std.specs.Prelude.{◌≡◌, ◌<◌, ◌≤◌, ◌++◌, ◌↔◌, min, length, take, drop, Some, IsErr, IfOk, OnOk, OnErr, Contains};
+ghost use Rattle.std.specs.Prelude.{◌≡◌, ◌<◌, ◌++◌, ◌↔◌, min, length, take, drop, Some, IsErr, IfOk, OnErr, Contains};
 ghost use Rattle.std.specs.Io.{ReadsAtMost};
 ghost use Rattle.std.specs.Io.KnownBytes.{ReadConsumes};
 ghost use Rattle.resh_io.specs.Causes.{HasCause, next_count};
+ghost use Rattle.resh_io.specs.Memory.{after_read, after_failed_read};
 
 use crate::{ReadFailed, Source};
 use std::marker::Model;
 
 /// Gives its bytes in order, at most so many in a call, and fails at the calls that are listed, counted from 1.
+/// The count of calls stops at 2^64 - 1.
 #[derive(Drop)]
 pub struct MemorySource {
     bytes: Vec<u8>,
@@ -24,7 +26,13 @@ impl Model for MemorySource {
 
     ghost Value = { SourceState };
 
-    ghost view = { λ s. record { left = drop s.at s.bytes.items; failing = s.failing.items; most = s.most; calls = s.calls; faults = s.faults } };
+    ghost view = { λ s. record {
+      left = drop s.at s.bytes.items;
+      failing = s.failing.items;
+      most = s.most;
+      calls = s.calls;
+      faults = s.faults;
+    } };
 
     ghost invariant = { λ s. (s.at ≤ vec_len s.bytes) × (0 < s.most) };
 }
@@ -32,7 +40,8 @@ impl Model for MemorySource {
 impl MemorySource {
     pub fn new(bytes: Vec<u8>, failing: Vec<u64>, most: usize) -> Self
         requires { 0 < most }
-        ensures { result ≡ record { left = bytes.items; failing = failing.items; most = most; calls = 0; faults = 0 } }
+        ensures { result
+            ≡ record { left = bytes.items; failing = failing.items; most = most; calls = 0; faults = 0 } }
     {
         MemorySource {
             bytes,
@@ -71,12 +80,12 @@ impl Source for MemorySource {
 
         // It fails at the calls that are listed, and at no other.
         ensures fails { IsErr result ↔ Contains self.old.failing (next_count self.old.calls) }
-        ensures err { OnErr result (self.new ≡ record self.old { calls = next_count self.old.calls; faults = next_count self.old.faults }) }
+        ensures err { OnErr result (self.new ≡ after_failed_read self.old) }
 
         // Another call gives as many bytes as it can.
         ensures count { IfOk result (λ n. n ≡ min (min self.old.most (length into.old)) (length self.old.left)) }
         ensures given { IfOk result (λ n. into.new ≡ take n self.old.left ++ drop n into.old) }
-        ensures ok { IfOk result (λ n. self.new ≡ record self.old { calls = next_count self.old.calls; left = drop n self.old.left }) }
+        ensures ok { IfOk result (λ n. self.new ≡ after_read self.old n) }
     {
         self.calls = self.calls.saturating_add(1);
         if self.failing.contains(&self.calls) {

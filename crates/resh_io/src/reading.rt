@@ -29,7 +29,8 @@ pub fn read_all<S: Source>(
 ) -> Result<Vec<u8>, ReadAllFault>
     requires { limit < 2 ^ 62 }
     ensures bytes { ReadsAll (S.left source.old) (S.left source.new) limit result }
-    ensures read { IsErrOf result ReadAllFault.Read → Rose (S.faults source.old) (S.faults source.new) }
+    ensures read { IsErrOf result ReadAllFault.Read
+        → Rose (S.faults source.old) (S.faults source.new) }
     ensures later { S.faults source.old ≤ S.faults source.new }
 {
     let mut bytes = Vec::new(alloc);
@@ -53,8 +54,10 @@ fn read_some<S: Source>(
     room: u64,
 ) -> Result<usize, ReadAllFault>
     requires { 0 < room }
-    ensures bytes { ReadsSome (S.left source.old) (S.left source.new) room bytes.old.items bytes.new.items result }
-    ensures read { IsErrOf result ReadAllFault.Read → Rose (S.faults source.old) (S.faults source.new) }
+    ensures bytes { ReadsSome (S.left source.old) (S.left source.new) room
+        bytes.old.items bytes.new.items result }
+    ensures read { IsErrOf result ReadAllFault.Read
+        → Rose (S.faults source.old) (S.faults source.new) }
     ensures later { S.faults source.old ≤ S.faults source.new }
 {
     let mut chunk = [0u8; CHUNK];
@@ -69,8 +72,10 @@ fn read_through<S: Source>(
     buffer: &mut [u8],
 ) -> Result<usize, ReadAllFault>
     requires { 0 < length buffer.old }
-    ensures bytes { ReadsSome (S.left source.old) (S.left source.new) (length buffer.old) bytes.old.items bytes.new.items result }
-    ensures read { IsErrOf result ReadAllFault.Read → Rose (S.faults source.old) (S.faults source.new) }
+    ensures bytes { ReadsSome (S.left source.old) (S.left source.new) (length buffer.old)
+        bytes.old.items bytes.new.items result }
+    ensures read { IsErrOf result ReadAllFault.Read
+        → Rose (S.faults source.old) (S.faults source.new) }
     ensures later { S.faults source.old ≤ S.faults source.new }
 {
     let count = match source.read(buffer) {

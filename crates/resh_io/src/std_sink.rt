@@ -9,7 +9,7 @@ ghost use Rattle.resh_io.specs.Writing.{TakesSome};
 use crate::{Sink, WriteFailed};
 use std::io::Write;
 
-/// A writer of std, as standard output, as a sink. It tells the bytes that the writer tells: standard output tells none.
+/// A writer of std as a sink. It tells the bytes that the writer tells, and standard output tells none.
 /// Each `Err` of the writer is a fault, and so is a call that takes nothing of a piece that isn't empty.
 #[derive(Drop)]
 pub struct StdSink<W> {
@@ -34,7 +34,8 @@ impl<W: Write> Sink for StdSink<W> {
     fn write(&mut self, piece: &[u8]) -> Result<usize, WriteFailed>
         ensures bound { WritesAtMost result piece.now }
         ensures some { TakesSome result piece.now }
-        ensures bytes { WriteAppends (W.contents (sink_writer self.old)) (W.contents (sink_writer self.new)) result piece.now }
+        ensures bytes { WriteAppends (W.contents (sink_writer self.old))
+            (W.contents (sink_writer self.new)) result piece.now }
         ensures cause { HasCause (sink_faults self.old) (sink_faults self.new) result }
 
         // A call that fails counts once, and another doesn't count.

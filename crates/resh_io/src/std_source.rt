@@ -8,7 +8,7 @@ ghost use Rattle.resh_io.specs.Standard.{source_reader, source_faults};
 use crate::{ReadFailed, Source};
 use std::io::Read;
 
-/// A reader of std, as standard input, as a source. It tells the bytes that the reader tells: standard input tells none.
+/// A reader of std as a source. It tells the bytes that the reader tells, and standard input tells none.
 /// Each `Err` of the reader is a fault.
 #[derive(Drop)]
 pub struct StdSource<R> {
@@ -32,7 +32,8 @@ impl<R: Read> Source for StdSource<R> {
 
     fn read(&mut self, into: &mut [u8]) -> Result<usize, ReadFailed>
         ensures bound { ReadsAtMost result into.new }
-        ensures bytes { ReadConsumes (R.remaining (source_reader self.old)) (R.remaining (source_reader self.new)) result into.new }
+        ensures bytes { ReadConsumes (R.remaining (source_reader self.old))
+            (R.remaining (source_reader self.new)) result into.new }
         ensures cause { HasCause (source_faults self.old) (source_faults self.new) result }
 
         // A call that fails counts once, and another doesn't count.
