@@ -1,13 +1,6 @@
-// A library with one function.
+//! The collection that a run stands for: one bag of documents, where a chunk map places them, and what clashes.
 #![tactic(auto)]
 
-ghost use Rattle.std.specs.Prelude.{◌≡◌};
-ghost use Rattle.resh_model.specs.Echo.{echo_of};
+mod laws;
 
-// The `ensures` clause is the contract: what `echo` returns is `echo_of` of its argument, a definition
-// in `specs/Echo.antt`, which a caller's clause can cite too.
-pub fn echo(x: usize) -> usize
-    ensures { result ≡ echo_of x }
-{
-    x
-}
+pub use laws::placement_keeps_all;

@@ -1,0 +1,42 @@
+-- The collection: one bag of documents, each under its `_id` and the shard that owns it.
+use Rattle.std.specs.Prelude.{ℕ, List, [], ◌∷◌, Option, codes}
+use Rattle.std.specs.FinMap.{FinMap, empty, get, insert, remove, values}
+use Rattle.std.specs.Ordering.{nat_cmp, ordering_then}
+use Rattle.std.specs.declared.cmp.Ordering.{Ordering}
+use Rattle.resh_value.specs.Order.{compare_of}
+use Rattle.resh_value.specs.declared.value.Value.{Value}
+use Rattle.resh_chunks.specs.Pattern.{value_under}
+use Rattle.resh_chunks.specs.Chunks.{Chunks, owner_of}
+
+abbrev pub Document : Type 0
+Document = List (List ℕ × Value)
+
+abbrev pub id_of : Document → Value
+id_of document = value_under document (codes "_id")
+
+-- places are ordered by `_id`, then by shard
+abbrev pub place_cmp : Value × ℕ → Value × ℕ → Ordering
+place_cmp a b = ordering_then (compare_of a.0 b.0) (nat_cmp a.1 b.1)
+
+abbrev pub Bag : Type 0
+Bag = FinMap place_cmp Document
+
+-- the document at a shard under an `_id`
+unfoldable pub held : Bag → ℕ → Value → Option Document
+held bag shard id = get bag (id, shard)
+
+-- the bag with a document at a shard
+unfoldable pub put : Bag → ℕ → Document → Bag
+put bag shard document = insert bag (id_of document, shard) document
+
+unfoldable pub without : Bag → ℕ → Value → Bag
+without bag shard id = remove bag (id, shard)
+
+-- the documents by `_id` and shard
+unfoldable pub documents : Bag → List Document
+documents bag = values bag
+
+-- each document under the shard that the old map gives it
+abbrev pub opening_bag : Chunks → List Document → Bag
+opening_bag old_map [] = empty
+opening_bag old_map (d ∷ ds) = put (opening_bag old_map ds) (owner_of old_map d) d
