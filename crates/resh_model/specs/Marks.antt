@@ -2,6 +2,7 @@
 use Rattle.std.specs.Prelude.{◌≡◌, ℕ, List, [], ◌∷◌}
 use Rattle.resh_value.specs.declared.value.Value.{Value}
 use Rattle.resh_value.specs.declared.value.ShardId.{ShardId}
+use Rattle.resh_chunks.specs.Chunks.{Chunks}
 use Rattle.resh_coord.specs.declared.cause.Cause.{Cause}
 use Rattle.resh_coord.specs.declared.cause.Cause.TheVariants.{Clash}
 use Rattle.resh_coord.specs.declared.cause.End.{End}
@@ -21,9 +22,9 @@ clash_at shard id = Clash (record { 0 = shard }) id
 
 -- Where no clash stands, the collection switches, and each shard holds its part by the new map.
 -- Else the first clash drops it, and each shard holds its part by the old map.
-pub data IsRun (setup : Setup) (order : List Turn) (end : End) (holdings : List (List Document)) : Type 0 where
-  switched : HasNoClash setup.new_map (bag_of setup) → order ≡ Switch ∷ [] → end ≡ Committed
-      → holdings ≡ parts setup.new_map (bag_of setup) → IsRun setup order end holdings
-  dropped : (shard : ℕ) (id : Value) → IsFirstClash setup.new_map (bag_of setup) shard id
-      → order ≡ Drop (clash_at shard id) ∷ [] → end ≡ Aborted (clash_at shard id)
-      → holdings ≡ parts setup.old_map (bag_of setup) → IsRun setup order end holdings
+pub data IsRun (old_map new_map : Chunks) (bag : Bag) (order : List Turn) (end : End) (holdings : List (List Document)) : Type 0 where
+  switched : HasNoClash new_map bag → order ≡ Switch ∷ [] → end ≡ Committed → holdings ≡ parts new_map bag
+      → IsRun old_map new_map bag order end holdings
+  dropped : (shard : ℕ) (id : Value) → IsFirstClash new_map bag shard id
+      → order ≡ Drop (clash_at shard id) ∷ [] → end ≡ Aborted (clash_at shard id) → holdings ≡ parts old_map bag
+      → IsRun old_map new_map bag order end holdings

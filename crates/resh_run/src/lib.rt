@@ -1,13 +1,9 @@
-// A library with one function.
+//! The top call: words and a source in, a text and a status out.
 #![tactic(auto)]
 
-ghost use Rattle.std.specs.Prelude.{◌≡◌};
-ghost use Rattle.resh_run.specs.Echo.{echo_of};
+mod decision;
+mod placement;
+mod plain;
+mod words;
 
-// The `ensures` clause is the contract: what `echo` returns is `echo_of` of its argument, a definition
-// in `specs/Echo.antt`, which a caller's clause can cite too.
-pub fn echo(x: usize) -> usize
-    ensures { result ≡ echo_of x }
-{
-    x
-}
+pub use plain::{Outcome, plain_main};
