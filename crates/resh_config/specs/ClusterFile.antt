@@ -1,10 +1,11 @@
 -- The cluster file: which setup a JSON value is, or its first fault.
 use Rattle.std.specs.Prelude.{◌≡◌, ℕ, ◌+◌, Bool, true, false, cond, not, ◌&&◌, ◌||◌, ◌==◌, nat_lt, nat_le, is_some, List, [], ◌∷◌, ◌++◌, length, slice_index, position, codes, Option, Some, None, Result, Ok, Err}
 use Rattle.std.specs.List.{list_all, list_any}
-use Rattle.std.specs.Char.{is_ascii_digit, is_in_range}
+use Rattle.std.specs.Char.{is_ascii_digit}
+use Rattle.std.specs.Int.{is_in_range}
 use Rattle.std.specs.Str.{IsUtf8}
 use Rattle.serde_json.specs.Data.{Data, null, boolean, number, string, array, object, Members}
-use Rattle.serde_json.specs.Read.{read_text}
+use Rattle.serde_json.specs.Read.{read as read_text}
 use Rattle.resh_value.specs.Names.{same_name}
 use Rattle.resh_value.specs.Lookup.{field_of}
 use Rattle.std.specs.Ordering.{is_eq}

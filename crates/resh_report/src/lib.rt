@@ -1,8 +1,8 @@
 //! The page of a run, and the texts of refusals.
 #![tactic(auto)]
 
-mod page;
-mod refusal;
+mod pages;
+mod refusals;
 
-pub use page::page;
-pub use refusal::refusal;
+pub use pages::page;
+pub use refusals::refusal;
