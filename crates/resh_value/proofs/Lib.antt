@@ -1,5 +1,4 @@
-mod OrderEquations
-mod OrderFolds
+mod OrderDepth
 pub mod FieldSteps
 pub mod Names
 pub mod Standing

@@ -5,6 +5,10 @@ pub mod FromJson
 pub mod Lookup
 pub mod Names
 pub mod Order
+pub mod OrderCodes
+pub mod OrderEquations
+pub mod OrderFolds
+pub mod OrderLaws
 pub mod Outcome
 pub mod Paths
 pub mod Tags

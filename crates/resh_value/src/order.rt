@@ -10,7 +10,7 @@ use std::cmp::Ordering;
 
 /// Compares two values: first by kind (null, number, text, document, array, ObjectId, boolean, date), then by content.
 #[cycle(order)]
-#[tactic(auto, using(crate::proofs::OrderEquations::by_kind_then_content))]
+#[tactic(auto, using(crate::specs::OrderEquations::by_kind_then_content))]
 pub fn compare(a: &Value, b: &Value) -> Ordering
     ensures { result ≡ compare_of a.now b.now }
 {

@@ -1,20 +1,9 @@
--- Folds at documents and arrays, and how deep these are.
-use Rattle.std.proofs.Common.{ℕ, zero, suc, ◌<◌, ◌≤◌, ◌+◌, List, [], ◌∷◌, length, get_or, ◌≡◌, ◌∙◌, sym, rules, arith, map, ap, refl}
+-- How deep documents and arrays are.
+use Rattle.std.proofs.Common.{ℕ, zero, suc, ◌<◌, ◌≤◌, ◌+◌, List, [], ◌∷◌, length, get_or, ◌≡◌, ◌∙◌, arith, map, ap, refl}
 use Rattle.resh_value.specs.Depth.{levels_of, levels_step, greatest}
-use Rattle.resh_value.specs.declared.value.Value.{Value, Value-F, the_lemmas, fold-Value, map-Value, fold-roll-Value}
-use Rattle.resh_value.specs.declared.value.Value.TheVariants.{Doc, List as Array, rolls-Doc, rolls-List}
-
-pub map-Doc : {Y Z : Type 0} (h : Y → Z) (fs : List (List ℕ × Y)) → map-Value Y Z h (Value-F.Doc fs) ≡ Value-F.Doc (map (λ f. (f.0, h f.1)) fs)
-map-Doc h fs = search (rules, the_lemmas)
-
-pub map-Array : {Y Z : Type 0} (h : Y → Z) (xs : List Y) → map-Value Y Z h (Value-F.List xs) ≡ Value-F.List (map h xs)
-map-Array h xs = refl
-
-pub fold-Doc : {A : Type 0} (step : Value-F A → A) (fs : List (List ℕ × Value)) → fold-Value A step (Doc fs) ≡ step (Value-F.Doc (map (λ f. (f.0, fold-Value A step f.1)) fs))
-fold-Doc {A} step fs = ap (fold-Value A step) (sym (rolls-Doc fs)) ∙ fold-roll-Value A step (Value-F.Doc fs) ∙ ap step (map-Doc (fold-Value A step) fs)
-
-pub fold-Array : {A : Type 0} (step : Value-F A → A) (xs : List Value) → fold-Value A step (Array xs) ≡ step (Value-F.List (map (fold-Value A step) xs))
-fold-Array {A} step xs = ap (fold-Value A step) (sym (rolls-List xs)) ∙ fold-roll-Value A step (Value-F.List xs) ∙ ap step (map-Array (fold-Value A step) xs)
+use Rattle.resh_value.specs.OrderFolds.{fold-Doc, fold-Array}
+use Rattle.resh_value.specs.declared.value.Value.{Value}
+use Rattle.resh_value.specs.declared.value.Value.TheVariants.{Doc, List as Array}
 
 -- the greatest depth of a document's values
 abbrev pub deepest : List (List ℕ × Value) → ℕ

@@ -7,7 +7,7 @@ use Rattle.resh_value.specs.Names.{name_cmp}
 use Rattle.resh_value.specs.Order.{compare_of, compare_fields, content, content_of, kind, rank, field_against, Judge, judge_step}
 use Rattle.resh_value.specs.declared.value.Value.{Value, Value-F, the_lemmas, fold-Value, out-Value, map-Value, fold_out-Value}
 use Rattle.resh_value.specs.declared.value.Value.TheVariants.{Null, Int, Text, Doc, List as Array, Oid, Bool as Boolean, Date, outs-Doc, outs-List}
-use Rattle.resh_value.proofs.OrderFolds.{map-Doc}
+use Rattle.resh_value.specs.OrderFolds.{map-Doc}
 
 abbrev judge : Value → Judge
 judge = fold-Value Judge judge_step
