@@ -56,5 +56,9 @@ compare_of v = (fold-Value Judge judge_step v).against
 abbrev pub compare_fields : List ℕ × Value → List ℕ × Value → Ordering
 compare_fields f g = ordering_then (nat_cmp (kind f.1) (kind g.1)) (ordering_then (name_cmp f.0 g.0) (compare_of f.1 g.1))
 
+-- documents are compared pair by pair, and the shorter is less
+abbrev pub compare_documents : List (List ℕ × Value) → List (List ℕ × Value) → Ordering
+compare_documents = slice_cmp compare_fields
+
 abbrev pub content_of : Value → Value → Ordering
 content_of a b = content compare_fields compare_of (out-Value a) (out-Value b)

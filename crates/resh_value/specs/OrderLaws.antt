@@ -1,14 +1,14 @@
 -- The order of values is total, and only equal values tie.
 use Rattle.std.proofs.Common.{ℕ, ◌≡◌, ◌↔◌, ◌∙◌, sym, ap, subst, refl, true, false, List, [], ◌∷◌}
 use Rattle.std.specs.Ordering.{nat_cmp, int_cmp, bool_cmp, ordering_then, eq_by_cmp, is_eq}
-use Rattle.std.specs.Cmp.{IsTotalOrder, on_total, int_cmp_total, tied_itself}
-use Rattle.std.specs.Cmp.Lexicographic.{slice_cmp, lists_total}
+use Rattle.std.specs.Cmp.{IsTotalOrder, on_total, then_total, nat_cmp_total, int_cmp_total, tied_itself}
+use Rattle.std.specs.Cmp.Lexicographic.{slice_cmp, lists_total, nat_list_cmp_total}
 use Rattle.std.specs.FinMap.{IsAntisymmetric, nat_cmp-IsAntisymmetric, int_cmp-IsAntisymmetric, slice_cmp-IsAntisymmetric}
 use Rattle.std.specs.List.{AllByRecursion}
 use Rattle.std.specs.declared.cmp.Ordering.{Ordering}
 use Rattle.std.specs.declared.cmp.Ordering.TheVariants.{Less, Equal, Greater}
 use Rattle.resh_value.specs.Names.{name_cmp}
-use Rattle.resh_value.specs.Order.{compare_of, compare_fields, content, content_of, kind, rank}
+use Rattle.resh_value.specs.Order.{compare_of, compare_fields, compare_documents, content, content_of, kind, rank}
 use Rattle.resh_value.specs.OrderFolds.{Inside, by_inside}
 use Rattle.resh_value.specs.OrderEquations.{by_kind_then_content}
 use Rattle.resh_value.specs.OrderCodes.{code, code-cmp}
@@ -91,3 +91,18 @@ compare_itself = tied_itself compare_total
 -- two values tie exactly where they are equal
 pub compare_ties : (x y : Value) → (compare_of x y ≡ Equal) ↔ (x ≡ y)
 compare_ties x y = (compare_same x y, λ e. ap (compare_of x) (sym e) ∙ compare_itself x)
+
+all_only : (fs : List (List ℕ × Value)) → AllByRecursion (λ f. OnlyTies f.1) fs
+all_only [] = tt
+all_only (f ∷ fs) = (compare_same f.1, all_only fs)
+
+pub documents_total : IsTotalOrder compare_documents
+documents_total = lists_total (then_total (on_total (λ (f : List ℕ × Value). kind f.1) nat_cmp_total)
+    (then_total (on_total (λ (f : List ℕ × Value). f.0) nat_list_cmp_total) (on_total (λ (f : List ℕ × Value). f.1) compare_total)))
+
+-- documents that tie are equal
+pub documents_same : IsAntisymmetric compare_documents
+documents_same fs gs = fields_same fs gs (all_only fs)
+
+pub documents_ties : (fs gs : List (List ℕ × Value)) → (compare_documents fs gs ≡ Equal) ↔ (fs ≡ gs)
+documents_ties fs gs = (documents_same fs gs, λ e. ap (compare_documents fs) (sym e) ∙ tied_itself documents_total fs)

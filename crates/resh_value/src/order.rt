@@ -1,10 +1,13 @@
 //! The order of values.
 
-ghost use Rattle.std.specs.Prelude.{◌≡◌};
+ghost use Rattle.std.specs.Prelude.{◌≡◌, refl};
+ghost use Rattle.std.specs.Cmp.{eq_by_cmp_equiv, partial_equiv_from_equiv, partial_order_from_total};
 ghost use Rattle.std.specs.Cmp.Lexicographic.{slice_cmp};
-ghost use Rattle.resh_value.specs.Order.{compare_of, compare_fields, content_of, kind};
+ghost use Rattle.std.specs.Ordering.{as_partial_cmp, eq_by_cmp};
+ghost use Rattle.resh_value.specs.Order.{compare_of, compare_documents, compare_fields, content_of, kind};
+ghost use Rattle.resh_value.specs.OrderLaws.{compare_total, documents_total};
 
-use crate::value::Value;
+use crate::value::{Document, Value};
 use crate::words::Words;
 use std::cmp::Ordering;
 
@@ -41,7 +44,7 @@ fn compare_contents(a: &Value, b: &Value) -> Ordering
 // Pair by pair; the one that ends first is less.
 #[cycle(order)]
 fn compare_documents(fs: &[(Words, Value)], gs: &[(Words, Value)]) -> Ordering
-    ensures { result ≡ slice_cmp compare_fields fs.now gs.now }
+    ensures { result ≡ compare_documents fs.now gs.now }
 {
     let both = fs.len().min(gs.len());
     for i in 0..both {
@@ -99,5 +102,81 @@ fn kind_of(value: &Value) -> u8
         Value::Oid(_) => 5,
         Value::Bool(_) => 6,
         Value::Date(_) => 7,
+    }
+}
+
+impl PartialEq for Value {
+    ghost eq = { eq_by_cmp compare_of };
+
+    ghost laws = { partial_equiv_from_equiv (eq_by_cmp_equiv compare_total) };
+
+    fn eq(&self, other: &Value) -> bool {
+        compare(self, other).is_eq()
+    }
+}
+
+impl Eq for Value {
+    ghost laws = { eq_by_cmp_equiv compare_total };
+}
+
+impl PartialOrd for Value {
+    ghost partial_cmp = { as_partial_cmp compare_of };
+
+    ghost laws = { partial_order_from_total compare_total };
+
+    fn partial_cmp(&self, other: &Value) -> Option<Ordering> {
+        Some(self.cmp(other))
+    }
+}
+
+impl Ord for Value {
+    ghost cmp = { compare_of };
+
+    ghost total = { compare_total };
+
+    ghost matches_partial_cmp = { λ x y. refl };
+
+    ghost matches_eq = { λ x y. refl };
+
+    fn cmp(&self, other: &Value) -> Ordering {
+        compare(self, other)
+    }
+}
+
+impl PartialEq for Document {
+    ghost eq = { eq_by_cmp compare_documents };
+
+    ghost laws = { partial_equiv_from_equiv (eq_by_cmp_equiv documents_total) };
+
+    fn eq(&self, other: &Document) -> bool {
+        compare_documents(self.pairs(), other.pairs()).is_eq()
+    }
+}
+
+impl Eq for Document {
+    ghost laws = { eq_by_cmp_equiv documents_total };
+}
+
+impl PartialOrd for Document {
+    ghost partial_cmp = { as_partial_cmp compare_documents };
+
+    ghost laws = { partial_order_from_total documents_total };
+
+    fn partial_cmp(&self, other: &Document) -> Option<Ordering> {
+        Some(self.cmp(other))
+    }
+}
+
+impl Ord for Document {
+    ghost cmp = { compare_documents };
+
+    ghost total = { documents_total };
+
+    ghost matches_partial_cmp = { λ x y. refl };
+
+    ghost matches_eq = { λ x y. refl };
+
+    fn cmp(&self, other: &Document) -> Ordering {
+        compare_documents(self.pairs(), other.pairs())
     }
 }
