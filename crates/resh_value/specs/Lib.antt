@@ -2,6 +2,8 @@ pub mod formers
 pub mod Change
 pub mod Depth
 pub mod FromJson
+pub mod Hash
+pub mod HashLaws
 pub mod Lookup
 pub mod Names
 pub mod Order

@@ -6,6 +6,7 @@ mod copy;
 mod depth;
 mod fault;
 mod fields;
+mod hash;
 mod json;
 mod memory;
 mod order;

@@ -90,7 +90,7 @@ fn compare_arrays(xs: &[Value], ys: &[Value]) -> Ordering
 }
 
 // The place of a value's kind among the kinds.
-fn kind_of(value: &Value) -> u8
+pub(crate) fn kind_of(value: &Value) -> u8
     ensures { result ≡ kind value.now }
 {
     match value {
