@@ -1,12 +1,14 @@
 -- The order of values as equations.
-use Rattle.std.proofs.Common.{ℕ, suc, List, [], ◌∷◌, ◌≡◌, ◌≢◌, ◌∙◌, sym, rules, map, ap, refl}
+use Rattle.std.proofs.Common.{ℕ, ℤ, Bool as Truth, suc, List, [], ◌∷◌, ◌≡◌, ◌≢◌, ◌∙◌, sym, rules, map, ap, refl}
 use Rattle.std.specs.declared.cmp.Ordering.{Ordering}
 use Rattle.std.specs.Ordering.{nat_cmp, int_cmp, bool_cmp, ordering_then}
+use Rattle.std.specs.FinMap.{nat_cmp-IsAntisymmetric}
+use Rattle.std.specs.declared.cmp.Ordering.TheVariants.{Less, Equal, Greater}
 use Rattle.std.specs.Cmp.Lexicographic.{slice_cmp}
 use Rattle.resh_value.specs.Names.{name_cmp}
-use Rattle.resh_value.specs.Order.{compare_of, compare_fields, content, content_of, kind, rank, field_against, Judge, judge_step}
+use Rattle.resh_value.specs.Order.{compare_of, compare_fields, compare_documents, content, content_of, kind, rank, field_against, Judge, judge_step}
 use Rattle.resh_value.specs.declared.value.Value.{Value, Value-F, the_lemmas, fold-Value, out-Value, map-Value, fold_out-Value}
-use Rattle.resh_value.specs.declared.value.Value.TheVariants.{Null, Int, Text, Doc, List as Array, Oid, Bool as Boolean, Date, outs-Doc, outs-List}
+use Rattle.resh_value.specs.declared.value.Value.TheVariants.{Null, Int, Text, Doc, List as Array, Oid, Bool as Boolean, Date, outs-Null, outs-Int, outs-Text, outs-Doc, outs-List, outs-Oid, outs-Bool, outs-Date}
 use Rattle.resh_value.specs.OrderFolds.{map-Doc}
 
 abbrev judge : Value → Judge
@@ -61,3 +63,48 @@ unfolding compare_of
 by_kind_then_content a b =
     ap (λ (j : Judge). j.against b) (fold_out-Value Judge judge_step a)
     ∙ (λ i. ordering_then (nat_cmp (rank-map judge (out-Value a) i) (kind b)) (content_judged (out-Value a) (out-Value b) i))
+
+-- two layers, by kind and then by content
+abbrev layers_cmp : Value-F Value → Value-F Value → Ordering
+layers_cmp x y = ordering_then (nat_cmp (rank x) (rank y)) (content compare_fields compare_of x y)
+
+by_layers : (a b : Value) (x y : Value-F Value) → out-Value a ≡ x → out-Value b ≡ y → compare_of a b ≡ layers_cmp x y
+by_layers a b x y p q = by_kind_then_content a b ∙ (λ i. layers_cmp (p i) (q i))
+
+-- two numbers by value, and two dates
+pub compare_Int : (m n : ℤ) → compare_of (Int m) (Int n) ≡ int_cmp m n
+compare_Int m n = by_layers _ _ _ _ (outs-Int m) (outs-Int n)
+
+pub compare_Date : (m n : ℤ) → compare_of (Date m) (Date n) ≡ int_cmp m n
+compare_Date m n = by_layers _ _ _ _ (outs-Date m) (outs-Date n)
+
+pub compare_Null : compare_of Null Null ≡ Equal
+compare_Null = by_layers _ _ _ _ outs-Null outs-Null
+
+-- two texts and two ObjectIds by bytes
+pub compare_Text : (s t : List ℕ) → compare_of (Text s) (Text t) ≡ name_cmp s t
+compare_Text s t = by_layers _ _ _ _ (outs-Text s) (outs-Text t)
+
+pub compare_Oid : (s t : List ℕ) → compare_of (Oid s) (Oid t) ≡ slice_cmp nat_cmp s t
+compare_Oid s t = by_layers _ _ _ _ (outs-Oid s) (outs-Oid t)
+
+-- false before true
+pub compare_Bool : (a b : Truth) → compare_of (Boolean a) (Boolean b) ≡ bool_cmp a b
+compare_Bool a b = by_layers _ _ _ _ (outs-Bool a) (outs-Bool b)
+
+-- two documents pair by pair
+pub compare_Doc : (fs gs : List (List ℕ × Value)) → compare_of (Doc fs) (Doc gs) ≡ compare_documents fs gs
+compare_Doc fs gs = by_layers _ _ _ _ (outs-Doc fs) (outs-Doc gs)
+
+-- two arrays item by item
+pub compare_List : (xs ys : List Value) → compare_of (Array xs) (Array ys) ≡ slice_cmp compare_of xs ys
+compare_List xs ys = by_layers _ _ _ _ (outs-List xs) (outs-List ys)
+
+by_first : (r s : Ordering) → r ≢ Equal → ordering_then r s ≡ r
+by_first Less s h = refl
+by_first Equal s h = absurd (h refl)
+by_first Greater s h = refl
+
+-- values of two kinds by these
+pub compare_kinds : (a b : Value) → kind a ≢ kind b → compare_of a b ≡ nat_cmp (kind a) (kind b)
+compare_kinds a b h = by_kind_then_content a b ∙ by_first (nat_cmp (kind a) (kind b)) (content_of a b) (λ e. h (nat_cmp-IsAntisymmetric (kind a) (kind b) e))

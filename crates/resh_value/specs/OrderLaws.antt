@@ -1,9 +1,10 @@
 -- The order of values is total, and only equal values tie.
 use Rattle.std.proofs.Common.{ℕ, ◌≡◌, ◌↔◌, ◌∙◌, sym, ap, subst, refl, true, false, List, [], ◌∷◌}
 use Rattle.std.specs.Ordering.{nat_cmp, int_cmp, bool_cmp, ordering_then, eq_by_cmp, is_eq}
-use Rattle.std.specs.Cmp.{IsTotalOrder, on_total, then_total, nat_cmp_total, int_cmp_total, tied_itself}
-use Rattle.std.specs.Cmp.Lexicographic.{slice_cmp, lists_total, nat_list_cmp_total}
+use Rattle.std.specs.Cmp.{IsTotalOrder, on_total, then_total, nat_cmp_total, int_cmp_total, tied_itself, Equal-is}
+use Rattle.std.specs.Cmp.Lexicographic.{slice_cmp, lists_total, nat_list_cmp_total, pointwise, pointwise_decides}
 use Rattle.std.specs.FinMap.{IsAntisymmetric, nat_cmp-IsAntisymmetric, int_cmp-IsAntisymmetric, slice_cmp-IsAntisymmetric}
+use Rattle.std.specs.Bool.{Decides}
 use Rattle.std.specs.List.{AllByRecursion}
 use Rattle.std.specs.declared.cmp.Ordering.{Ordering}
 use Rattle.std.specs.declared.cmp.Ordering.TheVariants.{Less, Equal, Greater}
@@ -106,3 +107,13 @@ documents_same fs gs = fields_same fs gs (all_only fs)
 
 pub documents_ties : (fs gs : List (List ℕ × Value)) → (compare_documents fs gs ≡ Equal) ↔ (fs ≡ gs)
 documents_ties fs gs = (documents_same fs gs, λ e. ap (compare_documents fs) (sym e) ∙ tied_itself documents_total fs)
+
+-- the tests of equality tell the same value, document and list of values
+pub same_value : (x y : Value) → Decides (eq_by_cmp compare_of x y) (x ≡ y)
+same_value x y = (λ e. compare_same x y ((Equal-is (compare_of x y)).0 e), λ e. (Equal-is (compare_of x y)).1 ((compare_ties x y).1 e))
+
+pub same_document : (fs gs : List (List ℕ × Value)) → Decides (eq_by_cmp compare_documents fs gs) (fs ≡ gs)
+same_document fs gs = (λ e. documents_same fs gs ((Equal-is (compare_documents fs gs)).0 e), λ e. (Equal-is (compare_documents fs gs)).1 ((documents_ties fs gs).1 e))
+
+pub same_values : (xs ys : List Value) → Decides (pointwise (eq_by_cmp compare_of) xs ys) (xs ≡ ys)
+same_values = pointwise_decides same_value

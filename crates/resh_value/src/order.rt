@@ -1,8 +1,9 @@
 //! The order of values.
 
-ghost use Rattle.std.specs.Prelude.{◌≡◌, refl};
+ghost use Rattle.std.specs.Prelude.{◌≡◌, ◌↔◌, refl};
 ghost use Rattle.std.specs.Cmp.{eq_by_cmp_equiv, partial_equiv_from_equiv, partial_order_from_total};
 ghost use Rattle.std.specs.Cmp.Lexicographic.{slice_cmp};
+ghost use Rattle.std.specs.declared.cmp.Ordering.TheVariants.{Equal};
 ghost use Rattle.std.specs.Ordering.{as_partial_cmp, eq_by_cmp};
 ghost use Rattle.resh_value.specs.Order.{compare_of, compare_documents, compare_fields, content_of, kind};
 ghost use Rattle.resh_value.specs.OrderLaws.{compare_total, documents_total};
@@ -12,9 +13,19 @@ use crate::words::Words;
 use std::cmp::Ordering;
 
 /// Compares two values: first by kind (null, number, text, document, array, ObjectId, boolean, date), then by content.
+/// `Equal` comes exactly where the two are the same.
+#[tactic(auto, using(crate::specs::OrderLaws::compare_ties))]
+pub fn compare(a: &Value, b: &Value) -> Ordering
+    ensures order { result ≡ compare_of a.now b.now }
+    ensures ties { (result ≡ Equal) ↔ (a.now ≡ b.now) }
+{
+    compare_values(a, b)
+}
+
+// By kind, and then by what they hold.
 #[cycle(order)]
 #[tactic(auto, using(crate::specs::OrderEquations::by_kind_then_content))]
-pub fn compare(a: &Value, b: &Value) -> Ordering
+fn compare_values(a: &Value, b: &Value) -> Ordering
     ensures { result ≡ compare_of a.now b.now }
 {
     match kind_of(a).cmp(&kind_of(b)) {
@@ -71,7 +82,7 @@ fn compare_pair(f: &(Words, Value), g: &(Words, Value)) -> Ordering
     if names.is_ne() {
         return names;
     }
-    compare(value, other)
+    compare_values(value, other)
 }
 
 // Item by item; the one that ends first is less.
@@ -81,7 +92,7 @@ fn compare_arrays(xs: &[Value], ys: &[Value]) -> Ordering
 {
     let both = xs.len().min(ys.len());
     for i in 0..both {
-        let found = compare(&xs[i], &ys[i]);
+        let found = compare_values(&xs[i], &ys[i]);
         if found.is_ne() {
             return found;
         }

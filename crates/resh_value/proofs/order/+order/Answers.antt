@@ -5,8 +5,8 @@ use Rattle.resh_value.specs.Order.{compare_of, compare_fields}
 use Rattle.resh_value.proofs.OrderDepth.{deepest, items_levels, levels-Doc, levels-Array, item_levels, field_levels}
 use Rattle.resh_value.proofs.order.+order.Goals as goal
 
-pub compare_arrays-compare-found-requires : goal.compare_arrays-compare-found-requires
-compare_arrays-compare-found-requires t c =
+pub compare_arrays-compare_values-found-requires : goal.compare_arrays-compare_values-found-requires
+compare_arrays-compare_values-found-requires t c =
     let h = item_levels c.args.xs.now c.loop-i.i c.index-xs-i.result (omega arith) c.index-xs-i.is in (omega (arith, h), tt)
 
 pub compare_arrays-returns : goal.compare_arrays-returns

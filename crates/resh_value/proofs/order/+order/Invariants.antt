@@ -6,8 +6,8 @@ use Rattle.resh_value.specs.Order.{compare_of, compare_fields}
 use Rattle.resh_value.proofs.OrderDepth.{deepest, items_levels}
 use Rattle.resh_value.proofs.order.+order.Given as goal
 
-abbrev pub decreases-compare : goal.decreases-compare
-decreases-compare l = 4 * levels_of l.a.now + 1
+abbrev pub decreases-compare_values : goal.decreases-compare_values
+decreases-compare_values l = 4 * levels_of l.a.now + 1
 
 abbrev pub decreases-compare_contents : goal.decreases-compare_contents
 decreases-compare_contents l = 4 * levels_of l.a.now
