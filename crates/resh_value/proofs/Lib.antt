@@ -2,3 +2,7 @@ mod OrderDepth
 pub mod FieldSteps
 pub mod Names
 pub mod Standing
+pub mod PathLemmas
+pub mod RisingLemmas
+pub mod TagLemmas
+pub mod WalkLemmas

@@ -3,7 +3,8 @@ use Rattle.std.specs.Prelude.{ℕ, ◌+◌, ◌*◌, ◌^◌, ℤ, Bool, true, f
 use Rattle.std.specs.Char.{digit_value, is_ascii_digit, is_ascii_hexdigit}
 use Rattle.std.specs.List.{list_all}
 use Rattle.std.specs.Str.Parse.{starts_with_minus, digits_value, signed_digits_value}
-use Rattle.serde_json.specs.Data.{Data, null, boolean, number, string, array, object, Items, Members, no_members, member}
+use Rattle.serde_json.specs.Data.{Data, Members, no_members, member}
+use Rattle.serde_json.specs.Find.{as_str, as_object}
 use Rattle.resh_value.specs.Names.{same_name}
 use Rattle.resh_value.specs.declared.value.Value.{Value}
 use Rattle.resh_value.specs.declared.value.Value.TheVariants.{Int, Oid, Date}
@@ -32,30 +33,20 @@ bytes_of_hex (high ∷ low ∷ rest) = (digit_value high * 16 + digit_value low)
 abbrev pub oid_of : List ℕ → Option (List ℕ)
 oid_of text = cond ((length text == 24) && list_all is_ascii_hexdigit text) (Some (bytes_of_hex text)) None
 
-abbrev pub text_in : Data → Option (List ℕ)
-text_in (string text) = Some text
-text_in null = None
-text_in (boolean b) = None
-text_in (number n) = None
-text_in (array items) = None
-text_in (object members) = None
-
 abbrev pub oid_in : Data → Option Value
-oid_in content = option_map Oid (option_and_then oid_of (text_in content))
+oid_in content = option_map Oid (option_and_then oid_of (as_str content))
 
 abbrev pub whole_in : ℕ → Data → Option ℤ
-whole_in bits content = option_and_then (whole_of bits) (text_in content)
+whole_in bits content = option_and_then (whole_of bits) (as_str content)
 
 -- the instant of `{"$numberLong": ..}`
+abbrev pub instant_of : Members → Option Value
+instant_of (member name content no_members) = cond (same_name name (codes "$numberLong")) (option_map Date (whole_in 63 content)) None
+instant_of no_members = None
+instant_of (member name content (member other more rest)) = None
+
 abbrev pub date_in : Data → Option Value
-date_in (object (member name content no_members)) = cond (same_name name (codes "$numberLong")) (option_map Date (whole_in 63 content)) None
-date_in (object no_members) = None
-date_in (object (member name content (member other more rest))) = None
-date_in null = None
-date_in (boolean b) = None
-date_in (number n) = None
-date_in (string text) = None
-date_in (array items) = None
+date_in content = option_and_then instant_of (as_object content)
 
 -- what an object of one name stands for: the outer answer is whether the name is a tag's, the inner whether the content is
 abbrev pub tagged : List ℕ → Data → Option (Option Value)

@@ -41,6 +41,14 @@ impl<T> Fields<T> {
         }
     }
 
+    /// The fields, whose names rise.
+    pub(crate) fn from_pairs(pairs: Vec<(Words, T)>) -> Fields<T>
+        requires { HasRisingNames pairs.items }
+        ensures { result ≡ pairs.items }
+    {
+        Fields { pairs }
+    }
+
     pub fn len(&self) -> u64
         ensures { result ≡ length self.now }
     {

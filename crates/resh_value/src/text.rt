@@ -1,32 +1,17 @@
-//! Values and documents from JSON, and their text.
+//! The text of values and documents.
 
 ghost use Rattle.std.specs.Prelude.{◌≡◌, ◌++◌, IfOk, OnOk};
-ghost use Rattle.json.specs.Token.{Token};
-ghost use Rattle.serde_json.specs.View.{view};
-ghost use Rattle.resh_value.specs.Outcome.{Gives};
-ghost use Rattle.resh_value.specs.FromJson.{value_of, document_of, at_step};
+ghost use Rattle.json.specs.Print.{quoted};
 ghost use Rattle.resh_value.specs.Text.{text_of, tokens_of, document_text, document_tokens};
 
-use crate::fault::ValueFault;
 use crate::fields::Fields;
 use crate::memory::NoMemory;
-use crate::value::{Document, Value};
+use crate::value::Value;
 use crate::words::Words;
 use json::Writer;
 use std::alloc::Global;
 
 impl Value {
-    /// The value of a JSON value, or the first fault of a depth-first walk, with its path after `path`.
-    pub fn from_json(
-        alloc: Global,
-        json: &serde_json::Value,
-        path: &Words,
-    ) -> Result<Value, ValueFault>
-        ensures { Gives ValueFault.NoMemory result (at_step path.now (value_of (view json.now))) }
-    {
-        Err(ValueFault::NoMemory)
-    }
-
     /// Writes the tokens of the value.
     pub fn write(&self, writer: &mut Writer) -> Result<(), NoMemory>
         ensures tokens { OnOk result (writer.new.tokens ≡ writer.old.tokens ++ tokens_of self.now) }
@@ -44,17 +29,6 @@ impl Value {
 }
 
 impl Fields<Value> {
-    /// The document of a JSON object, or the first fault of a depth-first walk, with its path after `path`.
-    pub fn from_json(
-        alloc: Global,
-        json: &serde_json::Value,
-        path: &Words,
-    ) -> Result<Document, ValueFault>
-        ensures { Gives ValueFault.NoMemory result (at_step path.now (document_of (view json.now))) }
-    {
-        Err(ValueFault::NoMemory)
-    }
-
     /// Writes the tokens of the document.
     pub fn write(&self, writer: &mut Writer) -> Result<(), NoMemory>
         ensures tokens { OnOk result (writer.new.tokens ≡ writer.old.tokens ++ document_tokens self.now) }

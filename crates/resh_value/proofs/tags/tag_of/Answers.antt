@@ -1,0 +1,15 @@
+use Rattle.std.proofs.Common.{ap, sym, ◌∙◌}
+use Rattle.serde_json.specs.View.{view, members_view}
+use Rattle.resh_value.specs.Tags.{tagged, tag_of}
+use Rattle.resh_value.proofs.TagLemmas.{alone, no_tag}
+use Rattle.resh_value.proofs.RisingLemmas.{Entry}
+use Rattle.resh_value.proofs.tags.tag_of.Goals as goal
+
+pub returns-then-len-ne1 : goal.returns-then-len-ne1
+returns-then-len-ne1 c = no_tag c.args.members.now.entries (λ one. c.if-len-ne1.true (c.len.ensures.len ∙ one))
+
+pub returns-in-Some : goal.returns-in-Some
+returns-in-Some c =
+    let e : Entry = (c.in-Some.name.now, c.in-Some.content.now) in
+    let only = alone c.args.members.now.entries e (sym c.len.ensures.len ∙ c.if-len-ne1.false) c.in-Some.ensures.first in
+    c.tagged.ensures ∙ (ap (λ n. tagged n (view e.1)) c.as_str.ensures.value ∙ ap (λ es. tag_of (members_view es)) (sym only))
