@@ -6,3 +6,4 @@ pub mod PathLemmas
 pub mod RisingLemmas
 pub mod TagLemmas
 pub mod WalkLemmas
+pub mod FieldLaws

@@ -1,5 +1,5 @@
 -- The laws of the order of names.
-use Rattle.std.proofs.Common.{◌≡◌, ℕ, List, false, refl, ap, sym, ◌∙◌}
+use Rattle.std.proofs.Common.{◌≡◌, ◌≢◌, ℕ, List, false, refl, ap, sym, ◌∙◌}
 use Rattle.std.specs.declared.cmp.Ordering.{Ordering}
 use Rattle.std.specs.declared.cmp.Ordering.TheVariants.{Less, Equal, Greater}
 use Rattle.std.specs.Cmp.{IsTotalOrder}
@@ -30,3 +30,7 @@ pub by_order : {P : Type 0} (r : Ordering) → (r ≡ Less → P) → (r ≡ Equ
 by_order Less a b c = a refl
 by_order Equal a b c = b refl
 by_order Greater a b c = c refl
+
+-- different names don't compare equal
+pub apart_from_unlike : (x y : List ℕ) → x ≢ y → is_eq (name_cmp x y) ≡ false
+apart_from_unlike x y n = by_order (name_cmp x y) (λ h. ap is_eq h) (λ h. absurd (n (same_from_equal x y h))) (λ h. ap is_eq h)

@@ -1,5 +1,5 @@
 -- What a search among rising names finds.
-use Rattle.std.proofs.Common.{◌≡◌, ℕ, zero, suc, ◌+◌, ◌<◌, ◌≤◌, List, [], ◌∷◌, Option, Some, None, length, get_or, slice_get, insert, remove, refl, ap, sym, ◌∙◌, arith, subst}
+use Rattle.std.proofs.Common.{◌≡◌, ℕ, zero, suc, ◌+◌, ◌<◌, ◌≤◌, List, [], ◌∷◌, Option, Some, None, length, get_or, slice_get, slice_set, insert, remove, refl, ap, sym, ◌∙◌, arith, subst}
 use Rattle.std.specs.declared.cmp.Ordering.TheVariants.{Less, Equal, Greater}
 use Rattle.std.specs.Ordering.{is_eq}
 use Rattle.std.specs.List.{AllByRecursion}
@@ -9,7 +9,22 @@ use Rattle.std.proofs.lemmas.Option.{slice_get-get_or, same_Some}
 use Rattle.resh_value.specs.Names.{name_cmp, HasRisingNames}
 use Rattle.resh_value.specs.Lookup.{field_of, with_field, without_field, StandsAt, GoesTo}
 use Rattle.resh_value.proofs.Names.{name_cmp_total, name_cmp-itself, greater_from_less, less_from_greater, same_from_equal}
+use Rattle.resh_value.proofs.FieldLaws.{above_all, field_of-below, HasRisingNames-with_field, HasRisingNames-without_field}
 use Rattle.resh_value.proofs.FieldSteps.{field_of-here, field_of-past, with_field-before, with_field-here, with_field-past, without_field-here, without_field-past}
+
+-- what a search's answer says of the lists, but for their order
+record Found {X : Type 0} (fields : List (List ℕ × X)) (name : List ℕ) (place : ℕ) : Type 0 where
+  within : place < length fields
+  found : (value : X) → slice_get fields place ≡ Some (name, value) → field_of fields name ≡ Some value
+  named : (other : List ℕ) (value : X) → slice_get fields place ≡ Some (other, value) → other ≡ name
+  replaced : (value : X) → slice_set fields place (name, value) ≡ with_field fields name value
+  removed : remove fields place ≡ without_field fields name
+
+record Missed {X : Type 0} (fields : List (List ℕ × X)) (name : List ℕ) (place : ℕ) : Type 0 where
+  within : place ≤ length fields
+  missing : field_of fields name ≡ None
+  inserted : (value : X) → insert fields place (name, value) ≡ with_field fields name value
+  kept : fields ≡ without_field fields name
 
 -- a name is above the fields before one place, and below those from another on
 pub record IsBetween {X : Type 0} (fields : List (List ℕ × X)) (name : List ℕ) (low high : ℕ) : Type 0 where
@@ -25,9 +40,9 @@ module _ {X : Type 0} where
   above_head k (g ∷ fs) zero f a h = let e : g ≡ f = cc in subst (λ (x : List ℕ × X). name_cmp k x.0 ≡ Less) e a.0
   above_head k (g ∷ fs) (suc i) f a h = above_head k fs i f a.1 h
 
-  pub stands : (name : List ℕ) (v : X) (fs : List (List ℕ × X)) (i : ℕ) → HasRisingNames fs → slice_get fs i ≡ Some (name, v) → StandsAt fs name i
-  stands name v [] i s h = cc
-  stands name v (f ∷ fs) zero s h =
+  found_at : (name : List ℕ) (v : X) (fs : List (List ℕ × X)) (i : ℕ) → HasRisingNames fs → slice_get fs i ≡ Some (name, v) → Found fs name i
+  found_at name v [] i s h = cc
+  found_at name v (f ∷ fs) zero s h =
       let e : f ≡ (name, v) = cc in
       let at : name_cmp name f.0 ≡ Equal = ap (λ (x : List ℕ × X). name_cmp name x.0) e ∙ name_cmp-itself name in
       record {
@@ -37,8 +52,8 @@ module _ {X : Type 0} where
         replaced = λ w. ap (λ (k : List ℕ). (k, w) ∷ fs) (sym (ap (λ (x : List ℕ × X). x.0) e)) ∙ sym (with_field-here name f fs w at);
         removed = sym (without_field-here name f fs at);
       }
-  stands name v (f ∷ fs) (suc i) s h =
-      let r = stands name v fs i (sorted_tail name_cmp f.0 (keys_of fs) s) h in
+  found_at name v (f ∷ fs) (suc i) s h =
+      let r = found_at name v fs i (sorted_tail name_cmp f.0 (keys_of fs) s) h in
       let above : name_cmp name f.0 ≡ Greater = greater_from_less f.0 name (above_head f.0 fs i (name, v) (sorted_head name_cmp f.0 (keys_of fs) s) h) in
       record {
         within = omega (arith, r.within);
@@ -48,14 +63,18 @@ module _ {X : Type 0} where
         removed = ap (λ (l : List (List ℕ × X)). f ∷ l) r.removed ∙ sym (without_field-past name f fs (ap is_eq above));
       }
 
-  -- a name that is below the first of rising names is below them all
-  below_all : (name : List ℕ) (k : List ℕ) (fs : List (List ℕ × X)) → name_cmp name k ≡ Less → AllByRecursion (λ y. name_cmp k y ≡ Less) (keys_of fs) → AllByRecursion (λ y. name_cmp name y ≡ Less) (keys_of fs)
-  below_all name k [] h a = tt
-  below_all name k (f ∷ fs) h a = (name_cmp_total.trans name k f.0 h a.0, below_all name k fs h a.1)
-
-  pub missing_below : (name : List ℕ) (fs : List (List ℕ × X)) → AllByRecursion (λ y. name_cmp name y ≡ Less) (keys_of fs) → field_of fs name ≡ None
-  missing_below name [] a = refl
-  missing_below name (f ∷ fs) a = field_of-past name f fs (ap is_eq a.0) ∙ missing_below name fs a.1
+  stands : (name : List ℕ) (v : X) (fs : List (List ℕ × X)) (i : ℕ) → HasRisingNames fs → slice_get fs i ≡ Some (name, v) → StandsAt fs name i
+  stands name v fs i s h =
+      let r = found_at name v fs i s h in
+      record {
+        within = r.within;
+        found = r.found;
+        named = r.named;
+        replaced = r.replaced;
+        removed = r.removed;
+        rises = λ w. subst (HasRisingNames {X = X}) (sym (r.replaced w)) (HasRisingNames-with_field fs name w s);
+        rest_rises = subst (HasRisingNames {X = X}) (sym r.removed) (HasRisingNames-without_field fs name s);
+      }
 
   kept_below : (name : List ℕ) (fs : List (List ℕ × X)) → AllByRecursion (λ y. name_cmp name y ≡ Less) (keys_of fs) → without_field fs name ≡ fs
   kept_below name [] a = refl
@@ -72,24 +91,24 @@ module _ {X : Type 0} where
       greater_from_less f.0 name (name_cmp_total.trans f.0 (get_or fs i f).0 name below under)
 
   -- a name that is below the field at a place and above the one before it
-  pub goes : (name : List ℕ) (fs : List (List ℕ × X)) (i : ℕ) → HasRisingNames fs → i ≤ length fs
+  missed_at : (name : List ℕ) (fs : List (List ℕ × X)) (i : ℕ) → HasRisingNames fs → i ≤ length fs
       → ((j : ℕ) (f : List ℕ × X) → j + 1 ≡ i → slice_get fs j ≡ Some f → name_cmp name f.0 ≡ Greater)
       → ((f : List ℕ × X) → slice_get fs i ≡ Some f → name_cmp name f.0 ≡ Less)
-      → GoesTo fs name i
-  goes name [] zero s l b a = record { within = omega arith; missing = refl; inserted = λ w. refl; kept = refl }
-  goes name [] (suc i) s l b a = absurd (omega arith)
-  goes name (f ∷ fs) zero s l b a =
+      → Missed fs name i
+  missed_at name [] zero s l b a = record { within = omega arith; missing = refl; inserted = λ w. refl; kept = refl }
+  missed_at name [] (suc i) s l b a = absurd (omega arith)
+  missed_at name (f ∷ fs) zero s l b a =
       let under : name_cmp name f.0 ≡ Less = a f refl in
-      let all = below_all name f.0 fs under (sorted_head name_cmp f.0 (keys_of fs) s) in
+      let all = above_all name f.0 fs under (sorted_head name_cmp f.0 (keys_of fs) s) in
       record {
         within = omega arith;
-        missing = missing_below name (f ∷ fs) (under, all);
+        missing = field_of-below name (f ∷ fs) (under, all);
         inserted = λ w. sym (with_field-before name f fs w under);
         kept = sym (kept_below name (f ∷ fs) (under, all));
       }
-  goes name (f ∷ fs) (suc i) s l b a =
+  missed_at name (f ∷ fs) (suc i) s l b a =
       let over : name_cmp name f.0 ≡ Greater = over_head name f fs i s (omega arith) b in
-      let r = goes name fs i (sorted_tail name_cmp f.0 (keys_of fs) s) (omega arith) (λ j g e p. b (suc j) g (omega arith) p) a in
+      let r = missed_at name fs i (sorted_tail name_cmp f.0 (keys_of fs) s) (omega arith) (λ j g e p. b (suc j) g (omega arith) p) a in
       record {
         within = omega (arith, r.within);
         missing = field_of-past name f fs (ap is_eq over) ∙ r.missing;
@@ -97,11 +116,21 @@ module _ {X : Type 0} where
         kept = ap (λ (l : List (List ℕ × X)). f ∷ l) r.kept ∙ sym (without_field-past name f fs (ap is_eq over));
       }
 
+  goes : (name : List ℕ) (fs : List (List ℕ × X)) (i : ℕ) → HasRisingNames fs → Missed fs name i → GoesTo fs name i
+  goes name fs i s r = record {
+    within = r.within;
+    missing = r.missing;
+    inserted = r.inserted;
+    kept = r.kept;
+    rises = λ w. subst (HasRisingNames {X = X}) (sym (r.inserted w)) (HasRisingNames-with_field fs name w s);
+  }
+
   -- where the search ends
   pub goes_between : (name : List ℕ) (fs : List (List ℕ × X)) (low high : ℕ) → HasRisingNames fs → IsBetween fs name low high → high ≤ low → GoesTo fs name low
   goes_between name fs low high s h e =
       let same : high ≡ low = omega (arith, h.ordered) in
-      goes name fs low s (omega (arith, h.within)) h.above (subst (λ (n : ℕ). (f : List ℕ × X) → slice_get fs n ≡ Some f → name_cmp name f.0 ≡ Less) same h.below)
+      let above_low : (f : List ℕ × X) → slice_get fs low ≡ Some f → name_cmp name f.0 ≡ Less = subst (λ (n : ℕ). (f : List ℕ × X) → slice_get fs n ≡ Some f → name_cmp name f.0 ≡ Less) same h.below in
+      goes name fs low s (missed_at name fs low s (omega (arith, h.within)) h.above above_low)
 
   -- what a name compares to at a place says where the search goes on
   module _ (fs : List (List ℕ × X)) (name k : List ℕ) (m : ℕ) (e : List ℕ × X) (l : m < length fs) (read : k ≡ (get_or fs m e).0) where

@@ -2,7 +2,7 @@
 use Rattle.std.specs.Prelude.{◌≡◌, ℕ, ◌<◌, ◌≤◌, List, Option, Some, None, length, slice_get, slice_set, insert, remove}
 use Rattle.std.specs.BTreeMap.{is_at, insert_entry}
 use Rattle.std.specs.Map.{lookup, remove_entry}
-use Rattle.resh_value.specs.Names.{name_cmp}
+use Rattle.resh_value.specs.Names.{name_cmp, HasRisingNames}
 
 -- what stands under a name
 abbrev pub field_of : {X : Type 0} → List (List ℕ × X) → List ℕ → Option X
@@ -21,11 +21,14 @@ pub record StandsAt {X : Type 0} (fields : List (List ℕ × X)) (name : List �
   pub found : (value : X) → slice_get fields place ≡ Some (name, value) → field_of fields name ≡ Some value
   pub named : (other : List ℕ) (value : X) → slice_get fields place ≡ Some (other, value) → other ≡ name
   pub replaced : (value : X) → slice_set fields place (name, value) ≡ with_field fields name value
+  pub rises : (value : X) → HasRisingNames (slice_set fields place (name, value))
   pub removed : remove fields place ≡ without_field fields name
+  pub rest_rises : HasRisingNames (remove fields place)
 
 -- no field has the name, and a new one goes to a place
 pub record GoesTo {X : Type 0} (fields : List (List ℕ × X)) (name : List ℕ) (place : ℕ) : Type 0 where
   pub within : place ≤ length fields
   pub missing : field_of fields name ≡ None
   pub inserted : (value : X) → insert fields place (name, value) ≡ with_field fields name value
+  pub rises : (value : X) → HasRisingNames (insert fields place (name, value))
   pub kept : fields ≡ without_field fields name
