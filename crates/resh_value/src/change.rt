@@ -19,10 +19,13 @@ pub struct Change {
 ghost use Rattle.resh_value.specs.Change.{are_apart};
 
 impl Change {
-    pub fn copy(&self, alloc: Global) -> Result<Change, NoMemory>
+    /// A change with the same values and names, each on its own allocator.
+    pub fn copy(&self, _alloc: Global) -> Result<Change, NoMemory>
         ensures { IfOk result (λ change. change ≡ self.now) }
     {
-        Err(NoMemory)
+        let assign = self.assign.copy()?;
+        let unset = self.unset.copy()?;
+        Ok(Change { assign, unset })
     }
 }
 

@@ -63,6 +63,10 @@ impl<T> Fields<T> {
         self.pairs.as_slice()
     }
 
+    pub(crate) fn alloc(&self) -> Global {
+        *self.pairs.allocator()
+    }
+
     /// The value under a name; `None` exactly where there is none.
     pub fn get(&self, name: &Words) -> Option<&T>
         ensures { option_copied result ≡ field_of self.now name.now }

@@ -49,6 +49,10 @@ impl<T> Sequence<T> {
         items
     }
 
+    pub(crate) fn alloc(&self) -> Global {
+        *self.items.allocator()
+    }
+
     pub fn as_slice(&self) -> &[T]
         ensures { result.now ≡ self.now }
     {
