@@ -1,5 +1,5 @@
 -- Keys, bounds and chunks in order.
-use Rattle.std.specs.Prelude.{◌≡◌, ℕ, ◌<◌, ◌≤◌, Bool, true, false, not, ◌&&◌, List, length, slice_get, Some}
+use Rattle.std.specs.Prelude.{◌≡◌, ℕ, ◌+◌, ◌<◌, ◌≤◌, Bool, true, false, not, ◌&&◌, ◌||◌, nat_lt, List, length, slice_get, Some}
 use Rattle.std.specs.Ordering.{is_lt, is_gt}
 use Rattle.std.specs.Cmp.Lexicographic.{slice_cmp}
 use Rattle.std.specs.declared.cmp.Ordering.{Ordering}
@@ -26,12 +26,22 @@ bound_cmp Max Min = Greater
 bound_cmp Max (At k) = Greater
 bound_cmp Max Max = Equal
 
--- the lower bound isn't above the key, and the upper one is
-abbrev pub has_key : List Value → ChunkRow → Bool
-has_key key row = not (is_gt (bound_cmp row.min (At key))) && is_lt (bound_cmp (At key) row.max)
+-- no value, or more than there are names
+abbrev pub has_wrong_length : ℕ → Bound → Bool
+has_wrong_length names Min = false
+has_wrong_length names (At key) = nat_lt (length key) 1 || nat_lt names (length key)
+has_wrong_length names Max = false
 
--- the row at a place ends above the key, or no row does, and each row before it ends at or below the key
+-- the upper bound stands above the key
+abbrev pub ends_above : List Value → ChunkRow → Bool
+ends_above key row = is_lt (bound_cmp (At key) row.max)
+
+-- the lower bound doesn't stand above the key, and the upper one does
+abbrev pub has_key : List Value → ChunkRow → Bool
+has_key key row = not (is_gt (bound_cmp row.min (At key))) && ends_above key row
+
+-- the row at a place ends above the key, or no row is there, and the row before it doesn't
 pub record IsFirstAbove (key : List Value) (rows : List ChunkRow) (place : ℕ) : Type 0 where
   pub within : place ≤ length rows
-  pub below : (k : ℕ) (row : ChunkRow) → k < place → slice_get rows k ≡ Some row → is_lt (bound_cmp (At key) row.max) ≡ false
-  pub above : (row : ChunkRow) → slice_get rows place ≡ Some row → is_lt (bound_cmp (At key) row.max) ≡ true
+  pub before : (k : ℕ) (row : ChunkRow) → k + 1 ≡ place → slice_get rows k ≡ Some row → ends_above key row ≡ false
+  pub above : (row : ChunkRow) → slice_get rows place ≡ Some row → ends_above key row ≡ true

@@ -1,15 +1,14 @@
 -- Chunk maps: their faults, and the owner of a key.
-use Rattle.std.specs.Prelude.{◌≡◌, ℕ, ◌+◌, Bool, true, false, cond, not, ◌||◌, nat_lt, nat_le, List, [], ◌∷◌, length, filter, find, Option, Some, None, refl}
+use Rattle.std.specs.Prelude.{◌≡◌, ◌<◌, ℕ, ◌+◌, Bool, cond, not, ◌||◌, nat_lt, nat_le, List, [], ◌∷◌, length, filter, find, Option, Some, None, refl}
 use Rattle.std.specs.Ordering.{is_lt, is_eq}
 use Rattle.std.specs.List.{list_all}
 use Rattle.std.specs.Option.{option_or, option_map_or}
 use Rattle.std.specs.Coded.{Coded, code_by, coded×, coded_list, coded_ℕ}
 use Rattle.std.specs.declared.cmp.Ordering.{Ordering}
 use Rattle.std.specs.declared.cmp.Ordering.TheVariants.{Less, Equal, Greater}
-use Rattle.resh_value.specs.declared.value.Value.{Value}
-use Rattle.resh_value.specs.declared.value.ShardId.{ShardId}
-use Rattle.resh_chunks.specs.Bounds.{bound_cmp, has_key}
 use Rattle.resh_value.specs.Order.{compare_of}
+use Rattle.resh_value.specs.declared.value.Value.{Value}
+use Rattle.resh_chunks.specs.Bounds.{bound_cmp, has_key, has_wrong_length}
 use Rattle.resh_chunks.specs.Pattern.{key_of, value_under}
 use Rattle.resh_chunks.specs.declared.bound.Bound.{Bound}
 use Rattle.resh_chunks.specs.declared.bound.Bound.TheVariants.{Min, At, Max}
@@ -18,43 +17,38 @@ use Rattle.resh_chunks.specs.contracts.bound.ChunkRow as row
 use Rattle.resh_chunks.specs.declared.faults.ChunkFault.{ChunkFault}
 use Rattle.resh_chunks.specs.declared.faults.ChunkFault.TheVariants.{FirstNotMin, LastNotMax, EmptyRange, Gap, Overlap, UnknownShard, WrongLength}
 
-abbrev pub when : Bool → ChunkFault → Option ChunkFault
-when b fault = cond b (Some fault) None
+abbrev pub fault_where : Bool → ChunkFault → Option ChunkFault
+fault_where test fault = cond test (Some fault) None
 
--- no value, or more than there are names
-abbrev pub has_wrong_length : ℕ → Bound → Bool
-has_wrong_length names Min = false
-has_wrong_length names (At key) = nat_lt (length key) 1 || nat_lt names (length key)
-has_wrong_length names Max = false
+-- how a row begins against the end of the one before
+abbrev pub gap_or_overlap : ℕ → Ordering → Option ChunkFault
+gap_or_overlap i Less = Some (Overlap i)
+gap_or_overlap i Equal = None
+gap_or_overlap i Greater = Some (Gap i)
 
--- where a row begins against the end of the one before
+-- the first row begins below every key, and each later one where the one before ends
 abbrev pub joint_fault : Option Bound → ℕ → Bound → Option ChunkFault
-joint_fault None row Min = None
-joint_fault None row (At key) = Some FirstNotMin
-joint_fault None row Max = Some FirstNotMin
-joint_fault (Some before) row min = joint (bound_cmp min before)
-  where
-    joint : Ordering → Option ChunkFault
-    joint Less = Some (Overlap row)
-    joint Equal = None
-    joint Greater = Some (Gap row)
+joint_fault None i Min = None
+joint_fault None i (At key) = Some FirstNotMin
+joint_fault None i Max = Some FirstNotMin
+joint_fault (Some before) i min = gap_or_overlap i (bound_cmp min before)
 
--- the first fault of a row: its bounds' lengths, its shard, its joint, its range
+-- the first fault of the i-th row: its bounds' lengths, its shard, its joint, its range
 abbrev pub row_fault : ℕ → ℕ → Option Bound → ℕ → ChunkRow → Option ChunkFault
 row_fault names shards before i row =
-    option_or (when (has_wrong_length names row.min || has_wrong_length names row.max) (WrongLength i))
-    (option_or (when (nat_le shards row.shard.0) (UnknownShard i))
+    option_or (fault_where (has_wrong_length names row.min || has_wrong_length names row.max) (WrongLength i))
+    (option_or (fault_where (nat_le shards row.shard.0) (UnknownShard i))
     (option_or (joint_fault before i row.min)
-    (when (not (is_lt (bound_cmp row.min row.max))) (EmptyRange i))))
+    (fault_where (not (is_lt (bound_cmp row.min row.max))) (EmptyRange i))))
 
--- where the rows end
+-- the last row ends above every key, and there is one
 abbrev pub end_fault : Option Bound → Option ChunkFault
 end_fault None = Some FirstNotMin
 end_fault (Some Min) = Some LastNotMax
 end_fault (Some (At key)) = Some LastNotMax
 end_fault (Some Max) = None
 
--- the first fault of the rows from the i-th on, after a row that ends at `before`
+-- the first fault of the rows from the i-th on, where the one before ends at `before`
 abbrev pub rows_fault : ℕ → ℕ → Option Bound → ℕ → List ChunkRow → Option ChunkFault
 rows_fault names shards before i [] = end_fault before
 rows_fault names shards before i (row ∷ rows) = option_or (row_fault names shards before i row) (rows_fault names shards (Some row.max) (i + 1) rows)
@@ -86,6 +80,10 @@ pub record IsOwner (chunks : Chunks) (key : List Value) (shard : ℕ) : Type 0 w
   pub row : ChunkRow
   pub only : filter (has_key key) chunks.rows ≡ row ∷ []
   pub here : row.shard.0 ≡ shard
+
+-- in a chunk map without fault each key has one owner, and it is among the shards
+abbrev pub EachKeyHasOneOwner : Type 0
+EachKeyHasOneOwner = (chunks : Chunks) (key : List Value) → chunk_fault chunks ≡ None → (shard : ℕ) × (shard < chunks.shards) × IsOwner chunks key shard
 
 -- every field of the pattern is equal in both documents
 abbrev pub same_key : List (List ℕ) → List (List ℕ × Value) → List (List ℕ × Value) → Bool

@@ -1,5 +1,5 @@
 -- Patterns of shard keys.
-use Rattle.std.specs.Prelude.{◌≡◌, ℕ, ◌+◌, Bool, cond, ◌||◌, nat_lt, List, [], ◌∷◌, ◌++◌, length, map, Option, Some, None, unwrap_or, option_map}
+use Rattle.std.specs.Prelude.{◌≡◌, ℕ, ◌+◌, Bool, cond, ◌||◌, nat_lt, List, [], ◌∷◌, ◌++◌, length, map, slice_get, Option, Some, None, unwrap_or, option_map}
 use Rattle.std.specs.List.{list_any}
 use Rattle.resh_value.specs.Names.{same_name}
 use Rattle.resh_value.specs.Lookup.{field_of}
@@ -23,3 +23,7 @@ value_under document name = unwrap_or (field_of document name) Null
 -- the values that a document has under the pattern's names
 abbrev pub key_of : List (List ℕ) → List (List ℕ × Value) → List Value
 key_of pattern document = map (value_under document) pattern
+
+-- the value at a place of that key, null behind its end
+abbrev pub value_at : List (List ℕ) → List (List ℕ × Value) → ℕ → Value
+value_at pattern document place = unwrap_or (slice_get (key_of pattern document) place) Null

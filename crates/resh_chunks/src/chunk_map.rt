@@ -7,7 +7,7 @@ use crate::faults::ChunkFault;
 use crate::owner::{DocumentKey, row_of, same_field};
 use crate::pattern::KeyPattern;
 use crate::rows::fault_of;
-use resh_value::{Document, NoMemory, ShardId};
+use resh_value::{Document, NoMemory, ShardId, Value};
 use std::marker::Model;
 
 /// Chunks that cover the key space without gap or overlap, each on a shard.
@@ -80,10 +80,8 @@ impl ChunkMap {
         ensures only { IsOwner self.now (key_of self.now.pattern document.now) result.0 }
         ensures there { result.0 < self.now.shards }
     {
-        let key = DocumentKey {
-            pattern: self.pattern.names(),
-            document,
-        };
+        let null = Value::Null;
+        let key = DocumentKey::read(&self.pattern, document, &null);
         self.rows[row_of(self.rows.as_slice(), &key)].shard
     }
 

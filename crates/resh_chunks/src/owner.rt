@@ -1,89 +1,107 @@
 //! The row of a chunk map that has a key.
 
-ghost use Rattle.std.specs.Prelude.{◌≡◌, ◌<◌, List, length, Bool, unwrap_or, is_none, true};
+ghost use Rattle.std.specs.Prelude.{◌≡◌, ◌<◌, ◌≤◌, List, Bool, length, map, take};
 ghost use Rattle.std.specs.Ordering.{is_eq};
-ghost use Rattle.resh_value.specs.Lookup.{field_of};
 ghost use Rattle.resh_value.specs.Order.{compare_of};
 ghost use Rattle.resh_value.specs.declared.value.Value.{Value};
-ghost use Rattle.resh_chunks.specs.Bounds.{bound_cmp, key_cmp, IsFirstAbove};
-ghost use Rattle.resh_chunks.specs.Pattern.{key_of, value_under};
+ghost use Rattle.resh_chunks.specs.Bounds.{key_cmp, ends_above, IsFirstAbove};
+ghost use Rattle.resh_chunks.specs.Pattern.{key_of, value_under, value_at};
 
 use crate::bound::{Bound, ChunkRow, Key, compare_keys};
-use resh_value::{Document, Names, Value, Words, compare};
+use crate::pattern::{KeyPattern, MOST_NAMES};
+use resh_value::{Document, Value, Words, compare};
 use std::cmp::Ordering;
 
-/// What has a key, and compares it with bounds.
+/// What has a key, and compares it with a bound's values.
 pub(crate) trait Keyed {
     ghost key: { Self → List Value };
 
-    fn compare_bound(&self, bound: &Bound) -> Ordering
-        ensures { result ≡ bound_cmp (Bound.At (key self.now)) bound.now };
+    fn compare_values(&self, values: &Key) -> Ordering
+        ensures { result ≡ key_cmp (key self.now) values.now };
 }
 
 impl Keyed for Key {
     ghost key = { λ k. k };
 
-    fn compare_bound(&self, bound: &Bound) -> Ordering {
-        match bound {
-            Bound::Min => Ordering::Greater,
-            Bound::At(other) => compare_keys(self, other),
-            Bound::Max => Ordering::Less,
-        }
+    fn compare_values(&self, values: &Key) -> Ordering {
+        compare_keys(self, values)
     }
 }
 
-/// A document's key under a pattern, read where it is wanted.
+/// The values of a document under a pattern's names.
 #[derive(Drop)]
 pub(crate) struct DocumentKey<'a> {
-    pub(crate) pattern: &'a Names,
-    pub(crate) document: &'a Document,
+    values: [&'a Value; MOST_NAMES],
+    count: usize,
+    ghost counted: { count ≤ 3 },
+}
+
+impl<'a> DocumentKey<'a> {
+    /// Reads each field once; `null` stands where the document lacks one.
+    pub(crate) fn read(pattern: &KeyPattern, document: &'a Document, null: &'a Value) -> DocumentKey<'a>
+        requires { null.now ≡ Value.Null }
+        ensures { map (λ v. v.now) (take result.count result.values) ≡ key_of pattern.now document.now }
+    {
+        let names = pattern.names().as_slice();
+        DocumentKey {
+            values: [
+                value_at(names, 0, document, null),
+                value_at(names, 1, document, null),
+                value_at(names, 2, document, null),
+            ],
+            count: names.len(),
+        }
+    }
 }
 
 impl Keyed for DocumentKey<'_> {
-    ghost key = { λ k. key_of k.pattern.now k.document.now };
+    ghost key = { λ k. map (λ v. v.now) (take k.count k.values) };
 
-    fn compare_bound(&self, bound: &Bound) -> Ordering {
-        match bound {
-            Bound::Min => Ordering::Greater,
-            Bound::At(other) => compare_with(
-                self.pattern.as_slice(),
-                self.document,
-                other.as_slice(),
-            ),
-            Bound::Max => Ordering::Less,
-        }
+    fn compare_values(&self, values: &Key) -> Ordering {
+        compare_each(&self.values[..self.count], values.as_slice())
     }
 }
 
-fn compare_with(pattern: &[Words], document: &Document, values: &[Value]) -> Ordering
-    ensures { result ≡ key_cmp (key_of pattern.now document.now) values.now }
+fn value_at<'a>(names: &[Words], place: usize, document: &'a Document, null: &'a Value) -> &'a Value
+    requires { null.now ≡ Value.Null }
+    ensures { result.now ≡ value_at names.now document.now place }
 {
-    let mut names = pattern;
-    let mut rest = values;
-    while let [name, later_names @ ..] = names {
-        let [value, later @ ..] = rest else {
+    match names.get(place) {
+        Some(name) => value_under(document, name, null),
+        None => null,
+    }
+}
+
+fn value_under<'a>(document: &'a Document, name: &Words, null: &'a Value) -> &'a Value
+    requires { null.now ≡ Value.Null }
+    ensures { result.now ≡ value_under document.now name.now }
+{
+    match document.get(name) {
+        Some(value) => value,
+        None => null,
+    }
+}
+
+fn compare_each(own: &[&Value], values: &[Value]) -> Ordering
+    ensures { result ≡ key_cmp (map (λ v. v.now) own.now) values.now }
+{
+    let mut own = own;
+    let mut values = values;
+    while let [value, later @ ..] = own {
+        let [other, others @ ..] = values else {
             return Ordering::Greater;
         };
-        match compare_field(document, name, value) {
+        match compare(value, other) {
             Ordering::Equal => {}
             decided => return decided,
         }
-        names = later_names;
-        rest = later;
+        own = later;
+        values = others;
     }
-    if rest.is_empty() {
+    if values.is_empty() {
         Ordering::Equal
     } else {
         Ordering::Less
-    }
-}
-
-fn compare_field(document: &Document, name: &Words, value: &Value) -> Ordering
-    ensures { result ≡ compare_of (value_under document.now name.now) value.now }
-{
-    match document.get(name) {
-        Some(own) => compare(own, value),
-        None => compare(&Value::Null, value),
     }
 }
 
@@ -91,13 +109,11 @@ fn compare_field(document: &Document, name: &Words, value: &Value) -> Ordering
 pub(crate) fn same_field(a: &Document, b: &Document, name: &Words) -> bool
     ensures { result ≡ is_eq (compare_of (value_under a.now name.now) (value_under b.now name.now)) }
 {
-    match b.get(name) {
-        Some(value) => compare_field(a, name, value).is_eq(),
-        None => compare_field(a, name, &Value::Null).is_eq(),
-    }
+    let null = Value::Null;
+    compare(value_under(a, name, &null), value_under(b, name, &null)).is_eq()
 }
 
-/// The first row that ends above the key, or the number of rows.
+/// The first row that ends above the key, or the number of rows, where ends rise.
 pub(crate) fn row_of<K: Keyed>(rows: &[ChunkRow], key: &K) -> usize
     ensures { IsFirstAbove (K.key key.now) rows.now result }
 {
@@ -105,10 +121,21 @@ pub(crate) fn row_of<K: Keyed>(rows: &[ChunkRow], key: &K) -> usize
     let mut high = rows.len();
     while low < high {
         let middle = low + (high - low) / 2;
-        match key.compare_bound(&rows[middle].max) {
-            Ordering::Less => high = middle,
-            _ => low = middle + 1,
+        if ends_above(key, &rows[middle]) {
+            high = middle;
+        } else {
+            low = middle + 1;
         }
     }
     low
+}
+
+fn ends_above<K: Keyed>(key: &K, row: &ChunkRow) -> bool
+    ensures { result ≡ ends_above (K.key key.now) row.now }
+{
+    match &row.max {
+        Bound::Min => false,
+        Bound::At(values) => key.compare_values(values).is_lt(),
+        Bound::Max => true,
+    }
 }

@@ -6,6 +6,9 @@ use crate::faults::PatternFault;
 use resh_value::{Names, NoMemory, Words};
 use std::marker::Model;
 
+/// A shard key has at most so many fields.
+pub(crate) const MOST_NAMES: usize = 3;
+
 /// The names of a shard key's fields, one to three and distinct, which contracts see as the list of them.
 #[derive(Debug, Drop)]
 pub struct KeyPattern {

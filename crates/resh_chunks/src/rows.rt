@@ -2,7 +2,8 @@
 
 ghost use Rattle.std.specs.Prelude.{◌≡◌, ◌<◌, ◌^◌, None};
 ghost use Rattle.std.specs.Option.{option_copied};
-ghost use Rattle.resh_chunks.specs.Chunks.{has_wrong_length, joint_fault, row_fault, end_fault, rows_fault};
+ghost use Rattle.resh_chunks.specs.Bounds.{has_wrong_length};
+ghost use Rattle.resh_chunks.specs.Chunks.{joint_fault, row_fault, end_fault, rows_fault};
 
 use crate::bound::{Bound, ChunkRow};
 use crate::faults::ChunkFault;

@@ -1,0 +1,2 @@
+pub mod BoundOrder
+pub mod Tiling
