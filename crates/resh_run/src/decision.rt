@@ -1,8 +1,8 @@
 //! What the top call has to say.
 
-ghost use Rattle.std.specs.Prelude.{◌≡◌, Some, None, []};
-ghost use Rattle.resh_run.specs.Top.{Means};
-ghost use Rattle.resh_run.specs.Said.{IsSaid};
+ghost use Rattle.resh_run.specs.Said.{IsSaid, BytesSay, SetupSays};
+ghost use Rattle.std.specs.Prelude.{◌≡◌, None, []};
+ghost use Rattle.resh_config.specs.ClusterFile.{first_same};
 
 use crate::placement::run_of;
 use crate::words::are_plain;
@@ -10,12 +10,13 @@ use resh_config::read_setup;
 use resh_coord::End;
 use resh_io::{ReadAllFault, Source, read_all};
 use resh_report::{page, refusal};
-use resh_setup::{Documents, Setup, SetupFault, Turns};
+use resh_setup::{Setup, SetupFault, Turns};
 use resh_value::{NoMemory, Sequence};
 use std::alloc::Global;
 use std::mem;
 
-const INPUT_LIMIT: u64 = 67_108_864;
+/// The longest input, in bytes.
+pub(crate) const INPUT_LIMIT: u64 = 67_108_864;
 
 /// What is to be said, with its text where that isn't fixed.
 #[derive(Debug, Drop)]
@@ -26,7 +27,11 @@ pub(crate) enum Said {
     NotBuilt,
     NoMemory,
     Refused(Vec<u8>),
-    Ran { order: Turns, end: End, page: Vec<u8> },
+    Ran {
+        order: Turns,
+        end: End,
+        page: Vec<u8>,
+    },
 }
 
 /// Reads the cluster file and runs it.
@@ -37,20 +42,46 @@ pub(crate) fn decide<S: Source>(alloc: Global, words: &[String], source: &mut S)
         return Said::Usage;
     }
     match read_all(alloc, source, INPUT_LIMIT) {
-        Ok(bytes) => decide_bytes(alloc, bytes.as_slice()),
+        Ok(bytes) => bytes_say(alloc, bytes),
         Err(ReadAllFault::Read) => Said::ReadFault,
         Err(ReadAllFault::TooLong { .. }) => Said::TooLong,
         Err(ReadAllFault::NoMemory) => Said::NoMemory,
     }
 }
 
-fn decide_bytes(alloc: Global, bytes: &[u8]) -> Said {
-    match read_setup(alloc, bytes) {
-        Ok(setup) => decide_setup(alloc, setup),
+/// The bytes are let go before the setup runs.
+fn bytes_say(alloc: Global, bytes: Vec<u8>) -> Said
+    ensures { BytesSay bytes.items result }
+{
+    let read = read_setup(alloc, bytes.as_slice());
+    drop(bytes);
+    match read {
+        Ok(setup) => setup_says(alloc, setup),
         Err(SetupFault::NoMemory) => Said::NoMemory,
         Err(fault) => match refusal(alloc, &fault) {
             Ok(text) => Said::Refused(text),
             Err(NoMemory) => Said::NoMemory,
         },
+    }
+}
+
+fn setup_says(alloc: Global, mut setup: Setup) -> Said
+    requires { first_same setup.old_map [] setup.documents ≡ None }
+    ensures { SetupSays setup result }
+{
+    if setup.unbuilt {
+        return Said::NotBuilt;
+    }
+    let documents = mem::replace(&mut setup.documents, Sequence::new(alloc));
+    match run_of(alloc, &setup.old_map, &setup.new_map, documents) {
+        Ok(run) => match page(alloc, &setup, &run.order, &run.end, &run.holdings) {
+            Ok(page) => Said::Ran {
+                order: run.order,
+                end: run.end,
+                page,
+            },
+            Err(NoMemory) => Said::NoMemory,
+        },
+        Err(NoMemory) => Said::NoMemory,
     }
 }

@@ -1,0 +1,60 @@
+-- What is to be said before its text is made, case by case.
+use Rattle.std.specs.Prelude.{◌≡◌, ℕ, ◌+◌, ◌≤◌, Bool, true, false, List, [], length, Option, Some, None, String}
+use Rattle.std.specs.declared.alloc.Global.{Global}
+use Rattle.resh_io.specs.Causes.{Rose}
+use Rattle.resh_io.specs.Reading.{GivesAll, GivesFirst}
+use Rattle.resh_coord.specs.declared.cause.End.{End}
+use Rattle.resh_setup.specs.declared.setup.Setup.{Setup}
+use Rattle.resh_setup.specs.declared.turn.Turn.{Turn}
+use Rattle.resh_setup.specs.declared.fault.SetupFault.{SetupFault}
+use Rattle.resh_model.specs.Bag.{Document}
+use Rattle.resh_model.specs.Marks.{bag_of, IsRun}
+use Rattle.resh_config.specs.ClusterFile.{IsSetup, IsRefused}
+use Rattle.resh_report.specs.Page.{page_text, refusal_text}
+use Rattle.resh_run.specs.Top.{is_plain, input_limit}
+use Rattle.resh_run.specs.declared.decision.Said.{Said}
+use Rattle.resh_run.specs.declared.decision.Said.TheVariants.{Usage, ReadFault, TooLong, NotBuilt, NoMemory, Refused, Ran}
+
+-- the page of a setup's run
+pub record IsPage (setup : Setup) (order : List Turn) (end : End) (page : List ℕ) : Type 0 where
+  pub built : setup.unbuilt ≡ false
+  pub holdings : List (List Document)
+  pub run : IsRun setup.old_map setup.new_map (bag_of setup) order end holdings
+  pub text : page ≡ page_text setup.shards order end holdings
+
+-- what a setup comes to
+abbrev pub SetupSays : Setup → Said → Type 0
+SetupSays setup Usage = ⊥
+SetupSays setup ReadFault = ⊥
+SetupSays setup TooLong = ⊥
+SetupSays setup NotBuilt = setup.unbuilt ≡ true
+SetupSays setup NoMemory = Unit {0}
+SetupSays setup (Refused text) = ⊥
+SetupSays setup (Ran order end page) = IsPage setup order end page.items
+
+-- what bytes come to
+abbrev pub BytesSay : List ℕ → Said → Type 0
+BytesSay bytes Usage = ⊥
+BytesSay bytes ReadFault = ⊥
+BytesSay bytes TooLong = ⊥
+BytesSay bytes NotBuilt = (setup : Setup) × IsSetup bytes setup × (setup.unbuilt ≡ true)
+BytesSay bytes NoMemory = Unit {0}
+BytesSay bytes (Refused text) = (fault : SetupFault) × IsRefused bytes fault × (text.items ≡ refusal_text fault)
+BytesSay bytes (Ran order end page) = (setup : Setup) × IsSetup bytes setup × IsPage setup order end page.items
+
+-- the bytes that were left come to this
+pub record ReadSays (old new : Option (List ℕ)) (said : Said) : Type 0 where
+  pub bytes : List ℕ
+  pub within : length bytes ≤ input_limit
+  pub all : GivesAll old new bytes
+  pub says : BytesSay bytes said
+
+-- what the top call has to say, and from what cause
+abbrev pub IsSaid : List (String Global) → Option (List ℕ) → Option (List ℕ) → ℕ → ℕ → Said → Type 0
+IsSaid words old new faults_old faults_new Usage = is_plain words ≡ false
+IsSaid words old new faults_old faults_new ReadFault = (is_plain words ≡ true) × Rose faults_old faults_new
+IsSaid words old new faults_old faults_new TooLong = (is_plain words ≡ true) × GivesFirst old new (input_limit + 1)
+IsSaid words old new faults_old faults_new NotBuilt = (is_plain words ≡ true) × ReadSays old new NotBuilt
+IsSaid words old new faults_old faults_new NoMemory = is_plain words ≡ true
+IsSaid words old new faults_old faults_new (Refused text) = (is_plain words ≡ true) × ReadSays old new (Refused text)
+IsSaid words old new faults_old faults_new (Ran order end page) = (is_plain words ≡ true) × ReadSays old new (Ran order end page)
