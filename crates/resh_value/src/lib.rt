@@ -26,5 +26,6 @@ pub use memory::NoMemory;
 pub use order::compare;
 pub use paths::{path_to_name, path_to_place};
 pub use sequence::Sequence;
+pub use text::append_quoted;
 pub use value::{Document, Items, Names, ShardId, Value};
 pub use words::Words;
