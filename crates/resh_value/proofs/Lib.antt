@@ -8,3 +8,4 @@ pub mod RisingLemmas
 pub mod TagLemmas
 pub mod WalkLemmas
 pub mod FieldLaws
+pub mod ChangeLaws

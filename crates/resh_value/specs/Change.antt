@@ -1,5 +1,8 @@
 -- A change of top-level fields.
-use Rattle.std.specs.Prelude.{ℕ, Bool, true, List, [], ◌∷◌, is_none, ◌&&◌}
+use Rattle.std.specs.Prelude.{ℕ, Bool, true, false, List, [], ◌∷◌, Option, Some, None, is_none, ◌&&◌}
+use Rattle.std.specs.BTreeMap.{is_at}
+use Rattle.std.specs.List.{list_any}
+use Rattle.resh_value.specs.Names.{name_cmp}
 use Rattle.resh_value.specs.Lookup.{field_of, with_field, without_field}
 
 -- the fields without these names
@@ -20,3 +23,13 @@ changed assign unset fields = with_fields (without_fields fields unset) assign
 abbrev pub are_apart : {X : Type 0} → List (List ℕ × X) → List (List ℕ) → Bool
 are_apart assign [] = true
 are_apart assign (name ∷ names) = is_none (field_of assign name) && are_apart assign names
+
+-- the name is one of these
+abbrev pub is_among : List (List ℕ) → List ℕ → Bool
+is_among names name = list_any (is_at (name_cmp name)) names
+
+-- what a change makes of one field: from what it assigns there, whether it unsets it, and what stood there
+abbrev pub changed_value : {X : Type 0} → Option X → Bool → Option X → Option X
+changed_value (Some value) gone old = Some value
+changed_value None true old = None
+changed_value None false old = old

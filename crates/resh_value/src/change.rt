@@ -35,6 +35,7 @@ impl Fields<Value> {
         ensures ok { OnOk result (self.new ≡ changed change.now.assign change.now.unset self.old) }
         ensures unchanged { OnErr result (self.new ≡ self.old) }
     {
-        Err(NoMemory)
+        let assign = change.assign.copy()?;
+        self.edit(change.unset.as_slice(), assign)
     }
 }

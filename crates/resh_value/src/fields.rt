@@ -1,14 +1,15 @@
 ghost use Rattle.std.specs.Prelude.{◌≡◌, [], length, OnOk, OnErr, IfOk};
 ghost use Rattle.std.specs.Option.{option_copied};
+ghost use Rattle.resh_value.specs.Change.{changed};
 ghost use Rattle.resh_value.specs.Lookup.{field_of, with_field, without_field};
 ghost use Rattle.resh_value.specs.Names.{HasRisingNames};
 
 use crate::memory::NoMemory;
+use crate::pairs::{edit_pairs, put_pair, take_pair};
 use crate::places::place_of;
 use crate::words::Words;
 use std::alloc::Global;
 use std::marker::Model;
-use std::mem::replace;
 
 /// Values under names, by rising name, which contracts see as the list of (name, value).
 #[derive(Debug, Drop)]
@@ -87,6 +88,14 @@ impl<T> Fields<T> {
 }
 
 impl<T: Drop> Fields<T> {
+    /// Removes the fields of some names, then puts values. Want of memory leaves the fields as they were.
+    pub(crate) fn edit(&mut self, unset: &[Words], assign: Fields<T>) -> Result<(), NoMemory>
+        ensures ok { OnOk result (self.new ≡ changed assign unset.now self.old) }
+        ensures unchanged { OnErr result (self.new ≡ self.old) }
+    {
+        edit_pairs(&mut self.pairs, unset, assign.pairs)
+    }
+
     /// Puts a value under a name and gives the old one. Want of memory leaves the fields as they were.
     pub fn put(&mut self, name: Words, value: T) -> Result<Option<T>, NoMemory>
         ensures old { IfOk result (λ old. old ≡ field_of self.old name) }
@@ -102,40 +111,5 @@ impl<T: Drop> Fields<T> {
         ensures rest { self.new ≡ without_field self.old name.now }
     {
         take_pair(&mut self.pairs, name)
-    }
-}
-
-fn put_pair<T: Drop>(
-    pairs: &mut Vec<(Words, T)>,
-    name: Words,
-    value: T,
-) -> Result<Option<T>, NoMemory>
-    requires { HasRisingNames pairs.old.items }
-    ensures old { IfOk result (λ old. old ≡ field_of pairs.old.items name) }
-    ensures ok { OnOk result (pairs.new.items ≡ with_field pairs.old.items name value) }
-    ensures unchanged { OnErr result (pairs.new.items ≡ pairs.old.items) }
-    ensures rising { HasRisingNames pairs.new.items }
-{
-    match place_of(pairs.as_slice(), name.as_bytes()) {
-        Ok(place) => Ok(Some(replace(&mut pairs[place].1, value))),
-        Err(place) => {
-            pairs.insert(place, (name, value))?;
-            Ok(None)
-        }
-    }
-}
-
-fn take_pair<T: Drop>(pairs: &mut Vec<(Words, T)>, name: &Words) -> Option<T>
-    requires { HasRisingNames pairs.old.items }
-    ensures taken { result ≡ field_of pairs.old.items name.now }
-    ensures rest { pairs.new.items ≡ without_field pairs.old.items name.now }
-    ensures rising { HasRisingNames pairs.new.items }
-{
-    match place_of(pairs.as_slice(), name.as_bytes()) {
-        Ok(place) => {
-            let (_, value) = pairs.remove(place);
-            Some(value)
-        }
-        Err(_) => None,
     }
 }

@@ -10,6 +10,7 @@ mod from_json;
 mod hash;
 mod memory;
 mod order;
+mod pairs;
 mod paths;
 mod places;
 mod sequence;

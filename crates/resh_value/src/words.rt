@@ -1,4 +1,4 @@
-ghost use Rattle.std.specs.Prelude.{◌≡◌, IfOk, refl, string_bytes};
+ghost use Rattle.std.specs.Prelude.{◌≡◌, ◌↔◌, IsTrue, IfOk, refl, string_bytes};
 ghost use Rattle.std.specs.Hash as fed;
 ghost use Rattle.std.specs.Cmp.{partial_equiv_from_equiv};
 ghost use Rattle.std.specs.Cmp.Lexicographic.{nat_list_cmp_total, nat_list_eq_equiv, texts_po, texts_ties, bytes_decides};
@@ -51,6 +51,13 @@ impl Words {
         ensures { result.now ≡ self.now }
     {
         self.text.as_bytes()
+    }
+
+    /// Whether it is this text, byte by byte.
+    pub fn is(&self, text: &str) -> bool
+        ensures { IsTrue result ↔ (self.now ≡ text.now) }
+    {
+        self.text.as_bytes() == text.as_bytes()
     }
 
     pub fn copy(&self) -> Result<Words, NoMemory>
