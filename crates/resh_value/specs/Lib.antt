@@ -4,6 +4,7 @@ pub mod Depth
 pub mod FromJson
 pub mod Hash
 pub mod HashLaws
+pub mod HeapList
 pub mod Lookup
 pub mod Names
 pub mod Order

@@ -11,10 +11,7 @@ use denote.Hole.Fix.{over}
 use denote.Param.Weighed.{Weighed, w_list, w_pair, w_const}
 use denote.Model.Placed.{view_places}
 use denote.Struct.Tuple.{Tuple, tuple_type}
-use Rattle.std.specs.formers.vec.Vec as vec
-use Rattle.std.specs.declared.alloc.Global.{Global}
-use Rattle.std.specs.contracts.alloc.Global as heap
-use Rattle.std.specs.contracts.impls.GlobalAllocator.TheImpl.{ghosts}
+use Rattle.std.specs.formers.vec.Vec.{mapped}
 use Rattle.std.specs.List.Sorted.{IsStrictlySortedBy, IsStrictlySortedBy-prop}
 use Rattle.std.specs.Map.{keys_of, values_of}
 use Rattle.resh_value.specs.declared.fields.Fields.TheInside.{Inside}
@@ -22,6 +19,7 @@ use Rattle.resh_value.specs.declared.fields.Fields.TheView.{view, invariant}
 use Rattle.resh_value.specs.contracts.fields.Fields as C
 use Rattle.resh_value.specs.contracts.fields.Fields.TheInside as I
 use Rattle.resh_value.specs.contracts.words.Words as words
+use Rattle.resh_value.specs.HeapList.{heap_list, list_stays}
 use Rattle.resh_value.specs.Names.{name_cmp, HasRisingNames}
 
 -- a name beside one of g's values
@@ -45,7 +43,7 @@ the_items_listed X [] = refl
 the_items_listed X (f ∷ fs) = ap (λ l. f.1 ∷ l) (the_items_listed X fs)
 
 abbrev inside : Former {0}
-inside = via (vec.the_former (named this) Global) Inside (λ X a. a.pairs) (λ X v. record { pairs = v }) (λ X a. refl) (λ X v. refl)
+inside = via (heap_list (named this)) Inside (λ X a. a.pairs) (λ X v. record { pairs = v }) (λ X a. refl) (λ X v. refl)
 
 -- a field whose value goes along h
 abbrev along : {X Y : Type 0} → (X → Y) → List ℕ × X → List ℕ × Y
@@ -68,7 +66,7 @@ module _ (R S : RattleType) (h : R.Denot → S.Denot) where
       (invariant R.Denot) (invariant S.Denot) (λ u. IsStrictlySortedBy-prop name_cmp _) (λ u. IsStrictlySortedBy-prop name_cmp _)
       (λ u. subst (IsStrictlySortedBy name_cmp) (sym (names_stay h u.pairs.items))) (λ u. subst (IsStrictlySortedBy name_cmp) (names_stay h u.pairs.items))
       (over (I.the_row R)) (over (I.the_row S))
-      (struct_places (I.the_type R) (I.the_type S) (vec.mapped (along h), tt) _ (λ d. refl) refl (laid _ _ _ (vec.the_places heap.the_row ghosts (pair_of R) (pair_of S) (along h) (pair_places a)), tt))
+      (struct_places (I.the_type R) (I.the_type S) (mapped (along h), tt) (inside.map R.Denot S.Denot h) (λ d. refl) refl (list_stays (pair_of R) (pair_of S) (along h) (pair_places a), tt))
 
   pub the_codes_placed : Recodes R S h → Recodes (C.the_row R) (C.the_row S) ((the_former this).map R.Denot S.Denot h)
   the_codes_placed e d = sym (code_map (coded× (coded_list coded_ℕ) R.coded).code (coded× (coded_list coded_ℕ) S.coded).code (along h) (λ f i. gcons ((coded_list coded_ℕ).code f.0) (sym (e f.1) i)) d)
