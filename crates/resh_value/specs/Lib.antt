@@ -5,6 +5,7 @@ pub mod FromJson
 pub mod Hash
 pub mod HashLaws
 pub mod HeapList
+pub mod Laws
 pub mod Lookup
 pub mod Names
 pub mod Order
