@@ -1,2 +1,3 @@
 pub mod BoundOrder
+pub mod Keys
 pub mod Tiling

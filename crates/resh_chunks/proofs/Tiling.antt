@@ -1,8 +1,8 @@
 -- In a chunk map without fault the rows tile the keys.
-use Rattle.std.proofs.Common.{◌≡◌, ℕ, zero, suc, subst, ◌+◌, ◌<◌, ◌≤◌, Bool, true, false, not, ◌&&◌, ◌||◌, cond, List, [], ◌∷◌, length, filter, Option, Some, None, refl, sym, ap, ◌∙◌, arith, rules, leb}
+use Rattle.std.proofs.Common.{◌≡◌, ℕ, zero, suc, subst, ◌+◌, ◌<◌, ◌≤◌, Bool, true, false, not, ◌&&◌, ◌||◌, cond, List, [], ◌∷◌, length, filter, Option, Some, None, refl, sym, ap, ◌∙◌, arith, leb, get_or}
 use Rattle.std.proofs.lemmas.Grind.{common_steps}
 use Rattle.std.proofs.lemmas.Bool.Decides.{nat_tests}
-use Rattle.std.proofs.lemmas.Option.{same_Some, slice_get_within}
+use Rattle.std.proofs.lemmas.Option.{same_Some, slice_get_within, get_or_from_slice_get}
 use Rattle.std.specs.Cmp.{IsTotalOrder, alike_right}
 use Rattle.std.specs.List.{find, slice_get}
 use Rattle.std.specs.Option.{option_or, option_map_or}
@@ -12,7 +12,7 @@ use Rattle.std.specs.declared.cmp.Ordering.TheVariants.{Less, Equal, Greater}
 use Rattle.resh_value.specs.Order.{compare_of}
 use Rattle.resh_value.specs.declared.value.Value.{Value}
 use Rattle.resh_chunks.specs.Bounds.{key_cmp, bound_cmp, ends_above, has_key, has_wrong_length, IsFirstAbove}
-use Rattle.resh_chunks.specs.Chunks.{fault_where, gap_or_overlap, joint_fault, row_fault, rows_fault, end_fault, Chunks, chunk_fault, owner, IsOwner, EachKeyHasOneOwner}
+use Rattle.resh_chunks.specs.Chunks.{fault_where, gap_or_overlap, joint_fault, row_fault, rows_fault, end_fault, Chunks, chunk_fault, owner, IsOwner, EachKeyHasOneOwner, Owns}
 use Rattle.resh_chunks.specs.declared.bound.Bound.{Bound}
 use Rattle.resh_chunks.specs.declared.bound.Bound.TheVariants.{Min, At, Max}
 use Rattle.resh_chunks.specs.declared.bound.ChunkRow.{ChunkRow}
@@ -173,28 +173,25 @@ one_owner o chunks key e =
     let one = one_row (bound_total o) (length chunks.pattern) chunks.shards key None 0 chunks.rows e tt in
     (one.row.shard.0, one.known, record { row = one.row; only = one.only; here = refl })
 
--- what the first row that ends above a key is
-pub record IsOwningRow (chunks : Chunks) (key : List Value) (row : ChunkRow) : Type 0 where
-  pub owner : row.shard.0 ≡ owner chunks key
-  pub only : IsOwner chunks key row.shard.0
-  pub there : row.shard.0 < chunks.shards
-
--- the first row that ends above a key is there
-pub first_within : IsTotalOrder compare_of → (chunks : Chunks) (key : List Value) (place : ℕ) → chunk_fault chunks ≡ None → IsFirstAbove key chunks.rows place → place < length chunks.rows
-first_within o chunks key place e f =
-    let first = first_has (bound_total o) (length chunks.pattern) chunks.shards key None 0 chunks.rows place e (λ _. tt) f in
-    slice_get_within chunks.rows place first.0 first.1
-
--- and owns it
-pub first_owns : IsTotalOrder compare_of → (chunks : Chunks) (key : List Value) (place : ℕ) (row : ChunkRow) → chunk_fault chunks ≡ None → IsFirstAbove key chunks.rows place → slice_get chunks.rows place ≡ Some row → IsOwningRow chunks key row
-first_owns o chunks key place row e f g =
-    let one = one_row (bound_total o) (length chunks.pattern) chunks.shards key None 0 chunks.rows e tt in
-    let first = first_has (bound_total o) (length chunks.pattern) chunks.shards key None 0 chunks.rows place e (λ _. tt) f in
-    let at_place : first.0 ≡ row = same_Some first.0 row (sym first.1 ∙ g) in
-    let same : one.row ≡ row = same_only (has_key key) chunks.rows one.row first.0 place one.only first.1 first.2 ∙ at_place in
-    let found = find_filter (has_key key) chunks.rows ∙ ap (λ l. slice_get l 0) one.only in
-    record {
-      owner = sym (ap (λ f. option_map_or (λ (r : ChunkRow). r.shard.0) f 0) found ∙ ap (λ (r : ChunkRow). r.shard.0) same);
-      only = record { row = one.row; only = one.only; here = ap (λ (r : ChunkRow). r.shard.0) same };
-      there = subst (λ (r : ChunkRow). r.shard.0 < chunks.shards) same one.known;
-    }
+-- the first row that ends above a key is there, and its shard is the owner
+pub first_owns : IsTotalOrder compare_of → (chunks : Chunks) (rows : List ChunkRow) (key : List Value) (place : ℕ) → chunk_fault chunks ≡ None → rows ≡ chunks.rows → IsFirstAbove key rows place
+    → (place < length rows) × ((row : ChunkRow) → row ≡ get_or rows place row → Owns chunks key row.shard.0)
+first_owns o chunks rows key place e same f = (within, owns)
+  where
+    fault : rows_fault (length chunks.pattern) chunks.shards None 0 rows ≡ None
+    fault = ap (rows_fault (length chunks.pattern) chunks.shards None 0) same ∙ e
+    one : HasOneRow chunks.shards key rows
+    one = one_row (bound_total o) (length chunks.pattern) chunks.shards key None 0 rows fault tt
+    first : (row : ChunkRow) × (slice_get rows place ≡ Some row) × (has_key key row ≡ true)
+    first = first_has (bound_total o) (length chunks.pattern) chunks.shards key None 0 rows place fault (λ _. tt) f
+    within : place < length rows
+    within = slice_get_within rows place first.0 first.1
+    only : filter (has_key key) chunks.rows ≡ one.row ∷ []
+    only = ap (filter (has_key key)) (sym same) ∙ one.only
+    found : owner chunks key ≡ one.row.shard.0
+    found = ap (λ r. option_map_or (λ (row : ChunkRow). row.shard.0) r 0) (find_filter (has_key key) chunks.rows ∙ ap (λ l. slice_get l 0) only)
+    owns : (row : ChunkRow) → row ≡ get_or rows place row → Owns chunks key row.shard.0
+    owns row r =
+        let there = get_or_from_slice_get rows place first.0 row first.1 in
+        let is = same_only (has_key key) rows one.row first.0 place one.only first.1 first.2 ∙ sym there ∙ sym r in
+        subst (λ (row : ChunkRow). Owns chunks key row.shard.0) is (record { found = sym found; only = record { row = one.row; only = only; here = refl }; there = one.known })

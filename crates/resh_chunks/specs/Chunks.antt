@@ -81,6 +81,12 @@ pub record IsOwner (chunks : Chunks) (key : List Value) (shard : ℕ) : Type 0 w
   pub only : filter (has_key key) chunks.rows ≡ row ∷ []
   pub here : row.shard.0 ≡ shard
 
+-- what is said of the shard that is found for a key
+pub record Owns (chunks : Chunks) (key : List Value) (shard : ℕ) : Type 0 where
+  pub found : shard ≡ owner chunks key
+  pub only : IsOwner chunks key shard
+  pub there : shard < chunks.shards
+
 -- in a chunk map without fault each key has one owner, and it is among the shards
 abbrev pub EachKeyHasOneOwner : Type 0
 EachKeyHasOneOwner = (chunks : Chunks) (key : List Value) → chunk_fault chunks ≡ None → (shard : ℕ) × (shard < chunks.shards) × IsOwner chunks key shard

@@ -1,13 +1,15 @@
 ghost use Rattle.std.specs.Prelude.{◌≡◌, IfOk};
-ghost use Rattle.resh_chunks.specs.Bounds.{bound_cmp, key_cmp};
+ghost use Rattle.resh_chunks.specs.Bounds.{bound_cmp};
 
-use resh_value::{NoMemory, Sequence, ShardId, Value};
+use resh_value::{Copied, NoMemory, Sequence, ShardId, Value};
+use std::alloc::Global;
 use std::cmp::Ordering;
 
-/// The values of a shard key's fields, in the order of the pattern.
+/// The values of a shard key's fields, in the order of the pattern. Keys are compared value by value, and the one that
+/// ends first is less.
 pub type Key = Sequence<Value>;
 
-/// An end of a chunk: below every key, at a key or the beginning of keys, or above every key.
+/// An end of a chunk: below every key, at the beginning of keys, or above every key.
 #[derive(Debug, Drop)]
 pub enum Bound {
     Min,
@@ -15,16 +17,8 @@ pub enum Bound {
     Max,
 }
 
-/// A chunk, from its lower bound up to but not including its upper one, on a shard.
-#[derive(Debug, Drop)]
-pub struct ChunkRow {
-    pub min: Bound,
-    pub max: Bound,
-    pub shard: ShardId,
-}
-
 impl Bound {
-    pub fn copy(&self) -> Result<Bound, NoMemory>
+    pub fn copy(&self, _alloc: Global) -> Result<Bound, NoMemory>
         ensures { IfOk result (λ b. b ≡ self.now) }
     {
         match self {
@@ -45,7 +39,7 @@ impl Bound {
             },
             Bound::At(key) => match other {
                 Bound::Min => Ordering::Greater,
-                Bound::At(other) => compare_keys(key, other),
+                Bound::At(other) => key.cmp(other),
                 Bound::Max => Ordering::Less,
             },
             Bound::Max => match other {
@@ -56,22 +50,28 @@ impl Bound {
     }
 }
 
+/// A chunk, from its lower bound up to but not including its upper one, on a shard.
+#[derive(Debug, Drop)]
+pub struct ChunkRow {
+    pub min: Bound,
+    pub max: Bound,
+    pub shard: ShardId,
+}
+
 impl ChunkRow {
-    pub fn copy(&self) -> Result<ChunkRow, NoMemory>
+    pub fn copy(&self, alloc: Global) -> Result<ChunkRow, NoMemory>
         ensures { IfOk result (λ row. row ≡ self.now) }
     {
         Ok(ChunkRow {
-            min: self.min.copy()?,
-            max: self.max.copy()?,
+            min: self.min.copy(alloc)?,
+            max: self.max.copy(alloc)?,
             shard: self.shard,
         })
     }
 }
 
-/// Compares keys value by value; the one that ends first is less.
-pub fn compare_keys(a: &Key, b: &Key) -> Ordering
-    ensures { result ≡ key_cmp a.now b.now }
-{
-    let _keys = (a.len(), b.len());
-    Ordering::Equal
+impl Copied for ChunkRow {
+    fn copied(&self, alloc: Global) -> Result<ChunkRow, NoMemory> {
+        self.copy(alloc)
+    }
 }

@@ -1,20 +1,20 @@
 ghost use Rattle.std.specs.Prelude.{◌≡◌, ◌<◌, None, Some, IfOk, MatchResult};
 ghost use Rattle.resh_chunks.specs.Pattern.{pattern_fault, key_of};
-ghost use Rattle.resh_chunks.specs.Chunks.{Chunks, chunk_fault, owner, owner_of, same_key, IsOwner};
+ghost use Rattle.resh_chunks.specs.Chunks.{Chunks, chunk_fault, owner, owner_of, same_key, IsOwner, Owns};
 
 use crate::bound::{ChunkRow, Key};
 use crate::faults::ChunkFault;
-use crate::owner::{DocumentKey, row_of, same_field};
+use crate::owner::{DocumentKey, Keyed, row_of, same_field};
 use crate::pattern::KeyPattern;
 use crate::rows::fault_of;
-use resh_value::{Document, NoMemory, ShardId, Value};
+use resh_value::{Document, NoMemory, Sequence, ShardId, Value};
 use std::marker::Model;
 
 /// Chunks that cover the key space without gap or overlap, each on a shard.
 #[derive(Debug, Drop)]
 pub struct ChunkMap {
     pattern: KeyPattern,
-    rows: Vec<ChunkRow>,
+    rows: Sequence<ChunkRow>,
     shards: u32,
 }
 
@@ -26,9 +26,9 @@ impl Model for ChunkMap {
 
     ghost coded = { chunks_code };
 
-    ghost view = { λ m. record { pattern = m.pattern; rows = m.rows.items; shards = m.shards } };
+    ghost view = { λ m. record { pattern = m.pattern; rows = m.rows; shards = m.shards } };
 
-    ghost invariant = { λ m. chunk_fault (record { pattern = m.pattern; rows = m.rows.items; shards = m.shards }) ≡ None };
+    ghost invariant = { λ m. chunk_fault (record { pattern = m.pattern; rows = m.rows; shards = m.shards }) ≡ None };
 }
 
 impl ChunkMap {
@@ -47,7 +47,7 @@ impl ChunkMap {
             Some(fault) => Err(fault),
             None => Ok(ChunkMap {
                 pattern,
-                rows,
+                rows: Sequence::from_vec(rows),
                 shards,
             }),
         }
@@ -70,8 +70,9 @@ impl ChunkMap {
     pub fn owner(&self, key: &Key) -> ShardId
         ensures owner { result.0 ≡ owner self.now key.now }
         ensures only { IsOwner self.now key.now result.0 }
+        ensures there { result.0 < self.now.shards }
     {
-        self.rows[row_of(self.rows.as_slice(), key)].shard
+        self.find_owner(key)
     }
 
     /// The shard of the one row that has the document's key, in which a missing field counts as null.
@@ -82,7 +83,16 @@ impl ChunkMap {
     {
         let null = Value::Null;
         let key = DocumentKey::read(&self.pattern, document, &null);
-        self.rows[row_of(self.rows.as_slice(), &key)].shard
+        self.find_owner(&key)
+    }
+
+    fn find_owner<K: Keyed>(&self, key: &K) -> ShardId
+        ensures { Owns self.now (K.key key.now) result.0 }
+    {
+        let rows = self.rows.as_slice();
+        let place = row_of(rows, key);
+        let row = &rows[place];
+        row.shard
     }
 
     /// Whether every field of the pattern is equal in both, null where one lacks it.
@@ -99,6 +109,10 @@ impl ChunkMap {
     pub fn copy(&self) -> Result<ChunkMap, NoMemory>
         ensures { IfOk result (λ m. m ≡ self.now) }
     {
-        Err(NoMemory)
+        Ok(ChunkMap {
+            pattern: self.pattern.copy()?,
+            rows: self.rows.copy()?,
+            shards: self.shards,
+        })
     }
 }

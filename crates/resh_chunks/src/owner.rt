@@ -7,7 +7,7 @@ ghost use Rattle.resh_value.specs.declared.value.Value.{Value};
 ghost use Rattle.resh_chunks.specs.Bounds.{key_cmp, ends_above, IsFirstAbove};
 ghost use Rattle.resh_chunks.specs.Pattern.{key_of, value_under, value_at};
 
-use crate::bound::{Bound, ChunkRow, Key, compare_keys};
+use crate::bound::{Bound, ChunkRow, Key};
 use crate::pattern::{KeyPattern, MOST_NAMES};
 use resh_value::{Document, Value, Words, compare};
 use std::cmp::Ordering;
@@ -24,7 +24,7 @@ impl Keyed for Key {
     ghost key = { λ k. k };
 
     fn compare_values(&self, values: &Key) -> Ordering {
-        compare_keys(self, values)
+        self.cmp(values)
     }
 }
 
