@@ -1,5 +1,5 @@
 -- What is to be said before its text is made, case by case.
-use Rattle.std.specs.Prelude.{◌≡◌, ℕ, ◌+◌, ◌≤◌, Bool, true, false, List, [], length, Option, Some, None, String}
+use Rattle.std.specs.Prelude.{◌≡◌, ◌≢◌, ℕ, ◌+◌, ◌≤◌, Bool, true, false, List, [], length, Option, Some, None, String}
 use Rattle.std.specs.declared.alloc.Global.{Global}
 use Rattle.resh_io.specs.Causes.{Rose}
 use Rattle.resh_io.specs.Reading.{GivesAll, GivesFirst}
@@ -7,6 +7,7 @@ use Rattle.resh_coord.specs.declared.cause.End.{End}
 use Rattle.resh_setup.specs.declared.setup.Setup.{Setup}
 use Rattle.resh_setup.specs.declared.turn.Turn.{Turn}
 use Rattle.resh_setup.specs.declared.fault.SetupFault.{SetupFault}
+use Rattle.resh_setup.specs.declared.fault.SetupFault.TheVariants as InSetup
 use Rattle.resh_model.specs.Bag.{Document}
 use Rattle.resh_model.specs.Marks.{bag_of, IsRun}
 use Rattle.resh_config.specs.ClusterFile.{IsSetup, IsRefused}
@@ -31,6 +32,16 @@ SetupSays setup NotBuilt = setup.unbuilt ≡ true
 SetupSays setup NoMemory = Unit {0}
 SetupSays setup (Refused text) = ⊥
 SetupSays setup (Ran order end page) = IsPage setup order end page.items
+
+-- what a fault comes to
+abbrev pub FaultSays : SetupFault → Said → Type 0
+FaultSays fault Usage = ⊥
+FaultSays fault ReadFault = ⊥
+FaultSays fault TooLong = ⊥
+FaultSays fault NotBuilt = ⊥
+FaultSays fault NoMemory = Unit {0}
+FaultSays fault (Refused text) = (fault ≢ InSetup.NoMemory) × (text.items ≡ refusal_text fault)
+FaultSays fault (Ran order end page) = ⊥
 
 -- what bytes come to
 abbrev pub BytesSay : List ℕ → Said → Type 0

@@ -24,7 +24,7 @@ abbrev pub input_limit : ℕ
 input_limit = 67108864
 
 abbrev pub usage_text : List ℕ
-usage_text = line (codes "usage: reshard plain")
+usage_text = line (codes "usage: reshard plain | check | run --workers N | generate N [--print]")
 
 abbrev pub too_long_text : List ℕ
 too_long_text = line (codes "refused: too long, limit 67108864")

@@ -1,6 +1,6 @@
 //! What the top call has to say.
 
-ghost use Rattle.resh_run.specs.Said.{IsSaid, BytesSay, SetupSays};
+ghost use Rattle.resh_run.specs.Said.{IsSaid, BytesSay, FaultSays, SetupSays};
 ghost use Rattle.std.specs.Prelude.{◌≡◌, None, []};
 ghost use Rattle.resh_config.specs.ClusterFile.{first_same};
 
@@ -57,11 +57,19 @@ fn bytes_say(alloc: Global, bytes: Vec<u8>) -> Said
     drop(bytes);
     match read {
         Ok(setup) => setup_says(alloc, setup),
-        Err(SetupFault::NoMemory) => Said::NoMemory,
-        Err(fault) => match refusal(alloc, &fault) {
-            Ok(text) => Said::Refused(text),
-            Err(NoMemory) => Said::NoMemory,
-        },
+        Err(fault) => fault_says(alloc, &fault),
+    }
+}
+
+fn fault_says(alloc: Global, fault: &SetupFault) -> Said
+    ensures { FaultSays fault.now result }
+{
+    if let SetupFault::NoMemory = fault {
+        return Said::NoMemory;
+    }
+    match refusal(alloc, fault) {
+        Ok(text) => Said::Refused(text),
+        Err(NoMemory) => Said::NoMemory,
     }
 }
 

@@ -4,6 +4,7 @@
 mod decision;
 mod placement;
 mod plain;
+mod texts;
 mod words;
 
 pub use plain::{Outcome, plain_main};
