@@ -1,0 +1,16 @@
+#!/bin/sh
+# Times `reshard plain` on 12,500 to 100,000 documents: the best of three runs, and the growth per doubling.
+# It is no part of the gate, and wants python3 and GNU time.
+set -eu
+top=$(CDPATH= cd -- "$(dirname -- "$0")/.." && pwd)
+program=${1:-$top/crates/resh_cli/out/resh_cli}
+files=$(mktemp -d)
+trap 'rm -rf "$files"' EXIT
+before=
+for count in 12500 25000 50000 100000; do
+  python3 "$top/bench/documents.py" "$count" >"$files/in.json"
+  best=$(for run in 1 2 3; do /usr/bin/time -f '%e %M' "$program" plain <"$files/in.json" 2>&1 >/dev/null; done | sort -n | head -n 1)
+  echo "$count documents, $(wc -c <"$files/in.json") bytes: ${best% *} s, ${best#* } KB"
+  [ -z "$before" ] || echo "$before ${best% *}" | awk '{ if ($1 > 0) printf "  %.2f times the time of half as many\n", $2 / $1 }'
+  before=${best% *}
+done
