@@ -1,16 +1,16 @@
 -- Equal values feed a hasher alike, and the hash's input as equations.
-use Rattle.std.proofs.Common.{ℕ, ◌≡◌, ◌∙◌, ◌++◌, List, true, ap, refl, map}
+use Rattle.std.proofs.Common.{ℕ, ◌≡◌, ◌∙◌, ◌++◌, List, true, ap, refl}
 use Rattle.std.specs.Cmp.{Equal-is}
 use Rattle.std.specs.Ordering.{eq_by_cmp}
 use Rattle.std.specs.Hash as fed
 use Rattle.std.specs.Hash.{HashWrites}
 use Rattle.std.specs.Cmp.Derive.Mapped.{items_map}
-use Rattle.resh_value.specs.Order.{compare_of, compare_documents, kind, rank}
+use Rattle.resh_value.specs.Order.{compare_of, compare_documents, kind}
 use Rattle.resh_value.specs.OrderEquations.{rank-map}
 use Rattle.resh_value.specs.OrderFolds.{map-Doc}
 use Rattle.resh_value.specs.OrderLaws.{compare_same, documents_same}
 use Rattle.resh_value.specs.Hash.{input_of, document_input, content_input, content_input_of, field_input}
-use Rattle.resh_value.specs.declared.value.Value.{Value, Value-F, fold-Value, map-Value, out-Value, fold_out-Value}
+use Rattle.resh_value.specs.declared.value.Value.{Value, Value-F, map-Value, out-Value, fold_out-Value}
 
 pub values_alike : (x y : Value) → eq_by_cmp compare_of x y ≡ true → input_of x ≡ input_of y
 values_alike x y e = ap input_of (compare_same x y ((Equal-is (compare_of x y)).0 e))

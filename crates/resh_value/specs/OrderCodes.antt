@@ -1,5 +1,5 @@
 -- Values as lists of numbers that compare alike.
-use Rattle.std.proofs.Common.{ℕ, ◌<◌, ℤ, pos, ◌<ℤ◌, Bool, true, false, cond, List, [], ◌∷◌, ◌++◌, map, ◌≡◌, ◌∙◌, sym, ap, refl, arith, append_assoc, append-nil}
+use Rattle.std.proofs.Common.{ℕ, ◌<◌, ℤ, pos, ◌<ℤ◌, Bool, true, false, List, [], ◌∷◌, ◌++◌, map, ◌≡◌, ◌∙◌, sym, ap, refl, arith, append_assoc, append-nil}
 use Rattle.std.specs.List.{AllByRecursion}
 use Rattle.std.specs.Ordering.{MatchOrdering, nat_cmp, int_cmp, bool_cmp, ordering_then}
 use Rattle.std.specs.Cmp.{ranked, int_cmp_is}

@@ -1,5 +1,5 @@
 -- The order of values as equations.
-use Rattle.std.proofs.Common.{ℕ, ℤ, Bool as Truth, suc, List, [], ◌∷◌, ◌≡◌, ◌≢◌, ◌∙◌, sym, rules, map, ap, refl}
+use Rattle.std.proofs.Common.{ℕ, ℤ, Bool as Truth, List, [], ◌∷◌, ◌≡◌, ◌≢◌, ◌∙◌, map, ap, refl}
 use Rattle.std.specs.declared.cmp.Ordering.{Ordering}
 use Rattle.std.specs.Ordering.{nat_cmp, int_cmp, bool_cmp, ordering_then}
 use Rattle.std.specs.FinMap.{nat_cmp-IsAntisymmetric}
@@ -7,9 +7,8 @@ use Rattle.std.specs.declared.cmp.Ordering.TheVariants.{Less, Equal, Greater}
 use Rattle.std.specs.Cmp.Lexicographic.{slice_cmp}
 use Rattle.resh_value.specs.Names.{name_cmp}
 use Rattle.resh_value.specs.Order.{compare_of, compare_fields, compare_documents, content, content_of, kind, rank, field_against, Judge, judge_step}
-use Rattle.resh_value.specs.declared.value.Value.{Value, Value-F, the_lemmas, fold-Value, out-Value, map-Value, fold_out-Value}
+use Rattle.resh_value.specs.declared.value.Value.{Value, Value-F, fold-Value, out-Value, map-Value, fold_out-Value}
 use Rattle.resh_value.specs.declared.value.Value.TheVariants.{Null, Int, Text, Doc, List as Array, Oid, Bool as Boolean, Date, outs-Null, outs-Int, outs-Text, outs-Doc, outs-List, outs-Oid, outs-Bool, outs-Date}
-use Rattle.resh_value.specs.OrderFolds.{map-Doc}
 
 abbrev judge : Value → Judge
 judge = fold-Value Judge judge_step

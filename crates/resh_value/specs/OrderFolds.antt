@@ -1,5 +1,5 @@
 -- Folds and inductions at documents and arrays.
-use Rattle.std.proofs.Common.{ℕ, ℤ, Bool, List, [], ◌∷◌, ◌≡◌, ◌∙◌, sym, rules, map, ap, subst, refl}
+use Rattle.std.proofs.Common.{ℕ, List, [], ◌∷◌, ◌≡◌, ◌∙◌, sym, rules, map, ap, subst, refl}
 use Rattle.std.specs.List.{AllByRecursion}
 use Rattle.resh_value.specs.declared.value.Value.{Value, Value-F, the_lemmas, fold-Value, map-Value, fold-roll-Value, ind-Value, roll-Value, out-Value, out-roll-Value}
 use Rattle.resh_value.specs.declared.value.Value.TheVariants.{Doc, List as Array, rolls-Doc, rolls-List}

@@ -14,6 +14,8 @@ mod order;
 mod pairs;
 mod paths;
 mod places;
+#[cfg(test)]
+mod order_tests;
 mod sequence;
 mod tags;
 mod text;

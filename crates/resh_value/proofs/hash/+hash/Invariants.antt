@@ -1,5 +1,4 @@
-use Rattle.std.proofs.Common.{◌≡◌, ℕ, ◌+◌, ◌*◌, ◌≤◌, ◌++◌, length, take}
-use Rattle.std.specs.Hash as fed
+use Rattle.std.proofs.Common.{◌≡◌, ◌+◌, ◌*◌, ◌≤◌, length, take}
 use Rattle.std.specs.List.{flat_map, fold}
 use Rattle.resh_value.specs.Depth.{levels_of}
 use Rattle.resh_value.specs.Hash.{input_of, field_input}

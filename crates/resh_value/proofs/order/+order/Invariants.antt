@@ -1,4 +1,4 @@
-use Rattle.std.proofs.Common.{◌≡◌, ℕ, ◌+◌, ◌*◌, ◌≤◌, length, min}
+use Rattle.std.proofs.Common.{◌≡◌, ◌+◌, ◌*◌, ◌≤◌, length, min}
 use Rattle.std.proofs.cmp.SliceLoops.{Rest}
 use Rattle.std.specs.Cmp.Lexicographic.{slice_cmp}
 use Rattle.resh_value.specs.Depth.{levels_of}
