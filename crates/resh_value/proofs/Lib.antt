@@ -2,6 +2,7 @@ mod OrderDepth
 pub mod FieldSteps
 pub mod Names
 pub mod Standing
+pub mod DepthLemmas
 pub mod HexLemmas
 pub mod PathLemmas
 pub mod RisingLemmas
