@@ -9,6 +9,8 @@ mod fields;
 mod from_json;
 mod hash;
 mod laws;
+#[cfg(test)]
+mod json_tests;
 mod memory;
 mod order;
 mod pairs;
