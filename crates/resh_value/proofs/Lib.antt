@@ -8,5 +8,8 @@ pub mod PathLemmas
 pub mod RisingLemmas
 pub mod TagLemmas
 pub mod WalkLemmas
+pub mod Names
+mod FieldSteps
+mod Standing
 pub mod FieldLaws
 pub mod ChangeLaws

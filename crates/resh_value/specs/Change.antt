@@ -1,7 +1,7 @@
 -- A change of top-level fields.
-use Rattle.std.specs.Prelude.{ℕ, Bool, true, false, List, [], ◌∷◌, Option, Some, None, is_none, ◌&&◌}
+use Rattle.std.specs.Prelude.{ℕ, Bool, true, false, List, [], ◌∷◌, Option, Some, None, is_none}
 use Rattle.std.specs.BTreeMap.{is_at}
-use Rattle.std.specs.List.{list_any}
+use Rattle.std.specs.List.{list_all, list_any}
 use Rattle.resh_value.specs.Names.{name_cmp}
 use Rattle.resh_value.specs.Lookup.{field_of, with_field, without_field}
 
@@ -21,8 +21,7 @@ changed assign unset fields = with_fields (without_fields fields unset) assign
 
 -- no name is both assigned and unset
 abbrev pub are_apart : {X : Type 0} → List (List ℕ × X) → List (List ℕ) → Bool
-are_apart assign [] = true
-are_apart assign (name ∷ names) = is_none (field_of assign name) && are_apart assign names
+are_apart assign unset = list_all (λ name. is_none (field_of assign name)) unset
 
 -- the name is one of these
 abbrev pub is_among : List (List ℕ) → List ℕ → Bool

@@ -1,6 +1,6 @@
 //! Changes of a document's top-level fields.
 
-ghost use Rattle.std.specs.Prelude.{◌≡◌, IsTrue, OnOk, OnErr, IfOk};
+ghost use Rattle.std.specs.Prelude.{◌≡◌, IsTrue, false, OnOk, OnErr, IfOk, IfSome, IfNone};
 ghost use Rattle.resh_value.specs.Change.{changed};
 
 use crate::fields::Fields;
@@ -19,6 +19,18 @@ pub struct Change {
 ghost use Rattle.resh_value.specs.Change.{are_apart};
 
 impl Change {
+    /// A change of these values and names; `None` exactly where a name is in both.
+    pub fn new(assign: Document, unset: Names) -> Option<Change>
+        ensures none { IfNone result (are_apart assign unset ≡ false) }
+        ensures some { IfSome result (λ change. (change.assign ≡ assign) × (change.unset ≡ unset)) }
+    {
+        if have_no_common_name(&assign, &unset) {
+            Some(Change { assign, unset })
+        } else {
+            None
+        }
+    }
+
     /// A change with the same values and names, each on its own allocator.
     pub fn copy(&self, _alloc: Global) -> Result<Change, NoMemory>
         ensures { IfOk result (λ change. change ≡ self.now) }
@@ -38,4 +50,13 @@ impl Fields<Value> {
         let assign = change.assign.copy()?;
         self.edit(change.unset.as_slice(), assign)
     }
+}
+
+fn have_no_common_name(assign: &Document, unset: &Names) -> bool
+    ensures { result ≡ are_apart assign.now unset.now }
+{
+    unset
+        .as_slice()
+        .iter()
+        .all(|name| assign.get(name).is_none())
 }

@@ -9,5 +9,4 @@ pub fn field_laws()
     ensures removes { RemovesOne Value }
     ensures same { SameByName Value }
     ensures changes { ChangesByName Value }
-{
-}
+{}
