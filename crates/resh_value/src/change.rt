@@ -60,3 +60,67 @@ fn have_no_common_name(assign: &Document, unset: &Names) -> bool
         .iter()
         .all(|name| assign.get(name).is_none())
 }
+
+#[cfg(test)]
+mod tests {
+    use super::*;
+    use crate::Copied;
+    use crate::words::Words;
+    use std::test::Fail;
+
+    fn document(alloc: Global, fields: &[(&str, i64)]) -> Result<Document, NoMemory> {
+        let mut document = Fields::new(alloc);
+        for (name, value) in fields {
+            document.put(Words::of(alloc, name)?, Value::Int(*value))?;
+        }
+        Ok(document)
+    }
+
+    fn change(
+        alloc: Global,
+        assign: &[(&str, i64)],
+        unset: &[&str],
+    ) -> Result<Option<Change>, NoMemory> {
+        let assign = document(alloc, assign)?;
+        let mut names = Names::new(alloc);
+        for name in unset {
+            if names.push(Words::of(alloc, name)?).is_err() {
+                return Err(NoMemory);
+            }
+        }
+        Ok(Change::new(assign, names))
+    }
+
+    #[test]
+    fn assigns_and_unsets(rt: HostRuntime) -> Result<(), Fail> {
+        let alloc = rt.alloc();
+        let old: [(&str, i64); 3] = [("a", 1), ("b", 2), ("c", 3)];
+        let cases: [(&[(&str, i64)], &[&str], &[(&str, i64)]); 5] = [
+            (&[], &[], &[("a", 1), ("b", 2), ("c", 3)]),
+            (&[("b", 5)], &[], &[("a", 1), ("b", 5), ("c", 3)]),
+            (
+                &[("d", 4), ("0", 6)],
+                &[],
+                &[("0", 6), ("a", 1), ("b", 2), ("c", 3), ("d", 4)],
+            ),
+            (&[], &["c", "x", "a"], &[("b", 2)]),
+            (
+                &[("bb", 7), ("c", 8)],
+                &["b", "b", "a"],
+                &[("bb", 7), ("c", 8)],
+            ),
+        ];
+        for (assign, unset, want) in cases {
+            let mut fields = document(alloc, old.as_slice())?;
+            let change = change(alloc, assign, unset)?.ok_or("apart")?.copied(alloc)?;
+            fields.apply_change(&change)?;
+            let want = document(alloc, want)?;
+            assert_eq!(rt;
+                format!(in alloc; "{fields:?}")?,
+                format!(in alloc; "{want:?}")?
+            );
+        }
+        assert!(rt; change(alloc, &[("a", 1), ("b", 2)], &["c", "b"])?.is_none());
+        Ok(())
+    }
+}

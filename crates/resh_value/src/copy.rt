@@ -106,3 +106,55 @@ impl Fields<Value> {
         Ok(Fields::from_pairs(copies))
     }
 }
+
+#[cfg(test)]
+mod tests {
+    use super::*;
+    use std::test::Fail;
+
+    // A document with a value of each kind, and with a document and a list in it.
+    fn example(alloc: Global) -> Result<Document, NoMemory> {
+        let mut items = Sequence::new(alloc);
+        for value in [
+            Value::Int(-5),
+            Value::Bool(true),
+            Value::Date(7),
+            Value::Null,
+        ] {
+            if items.push(value).is_err() {
+                return Err(NoMemory);
+            }
+        }
+        let mut inner = Fields::new(alloc);
+        inner.put(
+            Words::of(alloc, "text")?,
+            Value::Text(Words::of(alloc, "é")?),
+        )?;
+        inner.put(Words::of(alloc, "list")?, Value::List(items))?;
+        let mut outer = Fields::new(alloc);
+        outer.put(Words::of(alloc, "b")?, Value::Doc(inner))?;
+        outer.put(Words::of(alloc, "a")?, Value::Oid([7; 12]))?;
+        Ok(outer)
+    }
+
+    #[test]
+    fn copies_each_kind(rt: HostRuntime) -> Result<(), Fail> {
+        let alloc = rt.alloc();
+        let document = example(alloc)?;
+        let shown = format!(in alloc; "{document:?}")?;
+        let copied = document.copied(alloc)?;
+        assert_eq!(rt; format!(in alloc; "{copied:?}")?, shown);
+        let value = Value::Doc(copied);
+        assert_eq!(rt;
+            format!(in alloc; "{:?}", value.copied(alloc)?)?,
+            format!(in alloc; "{value:?}")?
+        );
+        let mut list = Sequence::new(alloc);
+        assert!(rt; list.push(document).is_ok());
+        assert_eq!(rt;
+            format!(in alloc; "{:?}", list.copied(alloc)?)?,
+            format!(in alloc; "{list:?}")?
+        );
+        Ok(())
+    }
+}
