@@ -68,59 +68,52 @@ mod tests {
     use crate::words::Words;
     use std::test::Fail;
 
-    fn document(alloc: Global, fields: &[(&str, i64)]) -> Result<Document, NoMemory> {
+    // These names, each with the same value.
+    fn document(alloc: Global, names: &str, value: i64) -> Result<Document, NoMemory> {
         let mut document = Fields::new(alloc);
-        for (name, value) in fields {
-            document.put(Words::of(alloc, name)?, Value::Int(*value))?;
+        for name in names.split_whitespace() {
+            document.put(Words::of(alloc, name)?, Value::Int(value))?;
         }
         Ok(document)
     }
 
-    fn change(
-        alloc: Global,
-        assign: &[(&str, i64)],
-        unset: &[&str],
-    ) -> Result<Option<Change>, NoMemory> {
-        let assign = document(alloc, assign)?;
-        let mut names = Names::new(alloc);
-        for name in unset {
-            if names.push(Words::of(alloc, name)?).is_err() {
+    fn list(alloc: Global, names: &str) -> Result<Names, NoMemory> {
+        let mut list = Names::new(alloc);
+        for name in names.split_whitespace() {
+            if list.push(Words::of(alloc, name)?).is_err() {
                 return Err(NoMemory);
             }
         }
-        Ok(Change::new(assign, names))
+        Ok(list)
+    }
+
+    fn text(alloc: Global, document: &Document) -> Result<String, NoMemory> {
+        let mut text = String::new(alloc);
+        for (name, value) in document.pairs() {
+            let pair = format!(in alloc; "{}={value:?} ", name.as_str())?;
+            text.push_str(pair.as_str())?;
+        }
+        Ok(text)
     }
 
     #[test]
     fn assigns_and_unsets(rt: HostRuntime) -> Result<(), Fail> {
         let alloc = rt.alloc();
-        let old: [(&str, i64); 3] = [("a", 1), ("b", 2), ("c", 3)];
-        let cases: [(&[(&str, i64)], &[&str], &[(&str, i64)]); 5] = [
-            (&[], &[], &[("a", 1), ("b", 2), ("c", 3)]),
-            (&[("b", 5)], &[], &[("a", 1), ("b", 5), ("c", 3)]),
-            (
-                &[("d", 4), ("0", 6)],
-                &[],
-                &[("0", 6), ("a", 1), ("b", 2), ("c", 3), ("d", 4)],
-            ),
-            (&[], &["c", "x", "a"], &[("b", 2)]),
-            (
-                &[("bb", 7), ("c", 8)],
-                &["b", "b", "a"],
-                &[("bb", 7), ("c", 8)],
-            ),
+        let cases = [
+            ("", "", "a=Int(1) b=Int(1) c=Int(1) "),
+            ("b", "", "a=Int(1) b=Int(2) c=Int(1) "),
+            ("d 0", "", "0=Int(2) a=Int(1) b=Int(1) c=Int(1) d=Int(2) "),
+            ("", "c x a", "b=Int(1) "),
+            ("bb c", "b b a", "bb=Int(2) c=Int(2) "),
         ];
         for (assign, unset, want) in cases {
-            let mut fields = document(alloc, old.as_slice())?;
-            let change = change(alloc, assign, unset)?.ok_or("apart")?.copied(alloc)?;
-            fields.apply_change(&change)?;
-            let want = document(alloc, want)?;
-            assert_eq!(rt;
-                format!(in alloc; "{fields:?}")?,
-                format!(in alloc; "{want:?}")?
-            );
+            let mut fields = document(alloc, "a b c", 1)?;
+            let change = Change::new(document(alloc, assign, 2)?, list(alloc, unset)?);
+            fields.apply_change(&change.ok_or("apart")?.copied(alloc)?)?;
+            assert_eq!(rt; text(alloc, &fields)?.as_str(), want);
         }
-        assert!(rt; change(alloc, &[("a", 1), ("b", 2)], &["c", "b"])?.is_none());
+        let both = Change::new(document(alloc, "a b", 1)?, list(alloc, "c b")?);
+        assert!(rt; both.is_none());
         Ok(())
     }
 }

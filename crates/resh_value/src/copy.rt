@@ -53,11 +53,11 @@ impl<T: Copied> Sequence<T> {
     {
         let alloc = self.alloc();
         let items = self.as_slice();
-        let mut copies = Vec::with_capacity(alloc, items.len())?;
+        let mut list = Vec::with_capacity(alloc, items.len())?;
         for item in items {
-            copies.push(item.copied(alloc)?)?;
+            list.push(item.copied(alloc)?)?;
         }
-        Ok(Sequence::from_vec(copies))
+        Ok(Sequence::from_vec(list))
     }
 }
 
