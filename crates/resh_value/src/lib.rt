@@ -8,16 +8,16 @@ mod fault;
 mod fields;
 mod from_json;
 mod hash;
-mod laws;
 #[cfg(test)]
 mod json_tests;
+mod laws;
 mod memory;
 mod order;
+#[cfg(test)]
+mod order_tests;
 mod pairs;
 mod paths;
 mod places;
-#[cfg(test)]
-mod order_tests;
 mod sequence;
 mod tags;
 mod text;
