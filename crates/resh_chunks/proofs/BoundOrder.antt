@@ -1,5 +1,5 @@
 -- Bounds are in a total order where values are.
-use Rattle.std.proofs.Common.{◌≡◌, ℕ, List, [], refl, subst, ap, sym, ◌∙◌}
+use Rattle.std.proofs.Common.{◌≡◌, ℕ, List, [], refl, subst}
 use Rattle.std.specs.Cmp.{IsTotalOrder, nat_cmp_total, on_total, total, partial_order_from_total, then_po, then_agrees}
 use Rattle.std.specs.Cmp.Lexicographic.{lists_total}
 use Rattle.std.specs.Ordering.{nat_cmp, ordering_then, on}

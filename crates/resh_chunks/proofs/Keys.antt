@@ -1,9 +1,9 @@
 -- Patterns without fault, and the keys under them.
-use Rattle.std.proofs.Common.{◌≡◌, ℕ, ◌+◌, ◌<◌, ◌≤◌, List, [], ◌∷◌, length, map, take, Option, Some, None, option_map, cond, ◌||◌, true, false, Bool, refl, arith, ltb, Bor, ap}
+use Rattle.std.proofs.Common.{◌≡◌, ℕ, ◌<◌, ◌≤◌, List, [], ◌∷◌, length, map, take, Option, Some, None, option_map, cond, ◌||◌, true, false, Bool, refl, arith, ltb, Bor}
 use Rattle.std.proofs.lemmas.Bool.Decides.{nat_tests}
 use Rattle.resh_value.specs.declared.value.Value.{Value}
 use Rattle.resh_chunks.specs.declared.faults.PatternFault.TheVariants.{Count, Repeated}
-use Rattle.resh_chunks.specs.Pattern.{pattern_fault, first_repeat, key_of, value_under, value_at}
+use Rattle.resh_chunks.specs.Pattern.{pattern_fault, first_repeat, key_of, value_at}
 
 pub one_name : (names : List (List ℕ)) → 1 ≤ length names → length names < 2 → None ≡ pattern_fault names
 one_name [] h k = absurd (omega arith)

@@ -1,6 +1,5 @@
 -- In a chunk map without fault the rows tile the keys.
-use Rattle.std.proofs.Common.{◌≡◌, ℕ, zero, suc, subst, ◌+◌, ◌<◌, ◌≤◌, Bool, true, false, not, ◌&&◌, ◌||◌, cond, List, [], ◌∷◌, length, filter, Option, Some, None, refl, sym, ap, ◌∙◌, arith, leb, get_or}
-use Rattle.std.proofs.lemmas.Grind.{common_steps}
+use Rattle.std.proofs.Common.{◌≡◌, ℕ, zero, suc, subst, ◌+◌, ◌<◌, Bool, true, false, not, ◌&&◌, ◌||◌, cond, List, [], ◌∷◌, length, filter, Option, Some, None, refl, sym, ap, ◌∙◌, arith, leb, get_or}
 use Rattle.std.proofs.lemmas.Bool.Decides.{nat_tests}
 use Rattle.std.proofs.lemmas.Option.{same_Some, slice_get_within, get_or_from_slice_get}
 use Rattle.std.specs.Cmp.{IsTotalOrder, alike_right}
@@ -11,8 +10,8 @@ use Rattle.std.specs.declared.cmp.Ordering.{Ordering}
 use Rattle.std.specs.declared.cmp.Ordering.TheVariants.{Less, Equal, Greater}
 use Rattle.resh_value.specs.Order.{compare_of}
 use Rattle.resh_value.specs.declared.value.Value.{Value}
-use Rattle.resh_chunks.specs.Bounds.{key_cmp, bound_cmp, ends_above, has_key, has_wrong_length, IsFirstAbove}
-use Rattle.resh_chunks.specs.Chunks.{fault_where, gap_or_overlap, joint_fault, row_fault, rows_fault, end_fault, Chunks, chunk_fault, owner, IsOwner, EachKeyHasOneOwner, Owns}
+use Rattle.resh_chunks.specs.Bounds.{bound_cmp, ends_above, has_key, has_wrong_length, IsFirstAbove}
+use Rattle.resh_chunks.specs.Chunks.{fault_where, gap_or_overlap, joint_fault, row_fault, rows_fault, end_fault, Chunks, chunk_fault, owner, EachKeyHasOneOwner, Owns}
 use Rattle.resh_chunks.specs.declared.bound.Bound.{Bound}
 use Rattle.resh_chunks.specs.declared.bound.Bound.TheVariants.{Min, At, Max}
 use Rattle.resh_chunks.specs.declared.bound.ChunkRow.{ChunkRow}
@@ -97,6 +96,7 @@ row_or_later shards key row rows known here none later = by (ends_above key row)
   where
     all : (b : Bool) → ends_above key row ≡ b → filter (has_key key) (row ∷ rows) ≡ cond b (row ∷ filter (has_key key) rows) (filter (has_key key) rows)
     all b a = ap (λ t. cond t (row ∷ filter (has_key key) rows) (filter (has_key key) rows)) (here ∙ a)
+
     by : (b : Bool) → ends_above key row ≡ b → HasOneRow shards key (row ∷ rows)
     by true a = record { row = row; only = all true a ∙ ap (λ l. row ∷ l) (none a); known = known }
     by false a = record { row = (later a).row; only = all false a ∙ (later a).only; known = (later a).known }
@@ -180,16 +180,22 @@ first_owns o chunks rows key place e same f = (within, owns)
   where
     fault : rows_fault (length chunks.pattern) chunks.shards None 0 rows ≡ None
     fault = ap (rows_fault (length chunks.pattern) chunks.shards None 0) same ∙ e
+
     one : HasOneRow chunks.shards key rows
     one = one_row (bound_total o) (length chunks.pattern) chunks.shards key None 0 rows fault tt
+
     first : (row : ChunkRow) × (slice_get rows place ≡ Some row) × (has_key key row ≡ true)
     first = first_has (bound_total o) (length chunks.pattern) chunks.shards key None 0 rows place fault (λ _. tt) f
+
     within : place < length rows
     within = slice_get_within rows place first.0 first.1
+
     only : filter (has_key key) chunks.rows ≡ one.row ∷ []
     only = ap (filter (has_key key)) (sym same) ∙ one.only
+
     found : owner chunks key ≡ one.row.shard.0
     found = ap (λ r. option_map_or (λ (row : ChunkRow). row.shard.0) r 0) (find_filter (has_key key) chunks.rows ∙ ap (λ l. slice_get l 0) only)
+
     owns : (row : ChunkRow) → row ≡ get_or rows place row → Owns chunks key row.shard.0
     owns row r =
         let there = get_or_from_slice_get rows place first.0 row first.1 in

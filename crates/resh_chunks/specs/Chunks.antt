@@ -1,5 +1,5 @@
 -- Chunk maps: their faults, and the owner of a key.
-use Rattle.std.specs.Prelude.{◌≡◌, ◌<◌, ℕ, ◌+◌, Bool, cond, not, ◌||◌, nat_lt, nat_le, List, [], ◌∷◌, length, filter, find, Option, Some, None, refl}
+use Rattle.std.specs.Prelude.{◌≡◌, ◌<◌, ℕ, ◌+◌, Bool, cond, not, ◌||◌, nat_le, List, [], ◌∷◌, length, filter, find, Option, Some, None, refl}
 use Rattle.std.specs.Ordering.{is_lt, is_eq}
 use Rattle.std.specs.List.{list_all}
 use Rattle.std.specs.Option.{option_or, option_map_or}

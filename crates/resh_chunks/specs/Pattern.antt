@@ -1,5 +1,5 @@
 -- Patterns of shard keys.
-use Rattle.std.specs.Prelude.{◌≡◌, ℕ, ◌+◌, Bool, cond, ◌||◌, nat_lt, List, [], ◌∷◌, ◌++◌, length, map, slice_get, Option, Some, None, unwrap_or, option_map}
+use Rattle.std.specs.Prelude.{ℕ, cond, ◌||◌, nat_lt, List, [], ◌∷◌, ◌++◌, length, map, slice_get, Option, Some, None, unwrap_or, option_map}
 use Rattle.std.specs.List.{list_any}
 use Rattle.resh_value.specs.Names.{same_name}
 use Rattle.resh_value.specs.Lookup.{field_of}

@@ -38,7 +38,11 @@ pub(crate) struct DocumentKey<'a> {
 
 impl<'a> DocumentKey<'a> {
     /// Reads each field once; `null` stands where the document lacks one.
-    pub(crate) fn read(pattern: &KeyPattern, document: &'a Document, null: &'a Value) -> DocumentKey<'a>
+    pub(crate) fn read(
+        pattern: &KeyPattern,
+        document: &'a Document,
+        null: &'a Value,
+    ) -> DocumentKey<'a>
         requires { null.now ≡ Value.Null }
         ensures { map (λ v. v.now) (take result.count result.values) ≡ key_of pattern.now document.now }
     {

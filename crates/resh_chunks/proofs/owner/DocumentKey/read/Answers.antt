@@ -1,4 +1,4 @@
-use Rattle.std.proofs.Common.{◌≡◌, ◌≤◌, ◌∙◌, List, ℕ, length, ap, subst, sym, None}
+use Rattle.std.proofs.Common.{◌≡◌, ◌∙◌, ap}
 use Rattle.resh_chunks.specs.Pattern.{key_of, pattern_fault}
 use Rattle.resh_chunks.proofs.Keys.{key_of_three, at_most_three}
 use Rattle.resh_chunks.proofs.owner.DocumentKey.read.Goals as goal
