@@ -48,15 +48,21 @@ abbrev pub end_text : List (List ℕ) → List (List ℕ) → End → List ℕ
 end_text shards clients Committed = codes "committed"
 end_text shards clients (Aborted c) = codes "aborted: " ++ cause_text shards clients c
 
+abbrev pub end_line : List (List ℕ) → List (List ℕ) → End → List ℕ
+end_line shards clients end = line (codes "end " ++ end_text shards clients end)
+
 -- a mark's line; a command has none before there are clients
 abbrev pub turn_lines : Turn → List ℕ
 turn_lines (Command client refused) = []
 turn_lines Switch = line (codes "switch")
 turn_lines (Drop c) = line (codes "drop")
 
+abbrev pub document_line : List (List ℕ × Value) → List ℕ
+document_line document = line (document_text document)
+
 -- a shard's name and number of documents, and its documents
 abbrev pub shard_lines : List ℕ → List (List (List ℕ × Value)) → List ℕ
-shard_lines name held = line (codes "shard " ++ name ++ codes " " ++ decimal (length held)) ++ flat_map (λ d. line (document_text d)) held
+shard_lines name held = line (codes "shard " ++ name ++ codes " " ++ decimal (length held)) ++ flat_map document_line held
 
 -- the shards from a place on
 abbrev pub holdings_lines : List (List ℕ) → ℕ → List (List (List (List ℕ × Value))) → List ℕ
@@ -65,16 +71,21 @@ holdings_lines shards place (held ∷ more) = shard_lines (name_at shards place)
 
 abbrev pub page_text : List (List ℕ) → List Turn → End → List (List (List (List ℕ × Value))) → List ℕ
 page_text shards order end holdings =
-    line (codes "steps") ++ line (codes "order") ++ flat_map turn_lines order ++ holdings_lines shards 0 holdings ++ line (codes "end " ++ end_text shards [] end)
+    line (codes "steps") ++ line (codes "order") ++ flat_map turn_lines order ++ holdings_lines shards 0 holdings ++ end_line shards [] end
 
 -- ---- refusals
 
--- WHAT P, and WHAT row I P
+-- `WHAT PATH`, with the path as a JSON string
 abbrev pub at_path : List ℕ → List ℕ → List ℕ
 at_path what path = what ++ codes " " ++ quoted path
 
-abbrev pub at_row : List ℕ → ℕ → List ℕ → List ℕ
-at_row what row path = what ++ codes " row " ++ decimal row ++ codes " " ++ quoted path
+-- `WHAT row I`
+abbrev pub of_row : List ℕ → ℕ → List ℕ
+of_row what row = what ++ codes " row " ++ decimal row
+
+-- `over limit LIMIT PATH`
+abbrev pub over_limit : ℕ → List ℕ → List ℕ
+over_limit limit path = at_path (codes "over limit " ++ decimal limit) path
 
 abbrev pub value_fault_text : ValueFault → List ℕ
 value_fault_text (value.NotWhole path) = at_path (codes "not whole") path
@@ -87,11 +98,11 @@ value_fault_text value.NoMemory = codes "no memory"
 abbrev pub chunk_fault_text : List ℕ → ChunkFault → List ℕ
 chunk_fault_text path FirstNotMin = at_path (codes "first not min") path
 chunk_fault_text path LastNotMax = at_path (codes "last not max") path
-chunk_fault_text path (EmptyRange row) = at_row (codes "empty range") row path
-chunk_fault_text path (Gap row) = at_row (codes "gap") row path
-chunk_fault_text path (Overlap row) = at_row (codes "overlap") row path
-chunk_fault_text path (UnknownShard row) = at_row (codes "unknown shard") row path
-chunk_fault_text path (WrongLength row) = at_row (codes "wrong length") row path
+chunk_fault_text path (EmptyRange row) = at_path (of_row (codes "empty range") row) path
+chunk_fault_text path (Gap row) = at_path (of_row (codes "gap") row) path
+chunk_fault_text path (Overlap row) = at_path (of_row (codes "overlap") row) path
+chunk_fault_text path (UnknownShard row) = at_path (of_row (codes "unknown shard") row) path
+chunk_fault_text path (WrongLength row) = at_path (of_row (codes "wrong length") row) path
 
 abbrev pub fault_text : SetupFault → List ℕ
 fault_text NotJson = codes "not JSON"
@@ -100,9 +111,9 @@ fault_text (WrongKind path) = at_path (codes "wrong kind") path
 fault_text (UnknownName path) = at_path (codes "unknown name") path
 fault_text (InValue fault) = value_fault_text fault
 fault_text (Chunks path fault) = chunk_fault_text path fault
-fault_text (SameId row) = codes "same id row " ++ decimal row
+fault_text (SameId row) = of_row (codes "same id") row
 fault_text (NoId path) = at_path (codes "no id") path
-fault_text (OverLimit path limit) = codes "over limit " ++ decimal limit ++ codes " " ++ quoted path
+fault_text (OverLimit path limit) = over_limit limit path
 fault_text NoMemory = codes "no memory"
 
 abbrev pub refusal_text : SetupFault → List ℕ
