@@ -1,7 +1,8 @@
 -- The collection: one bag of documents, each under its `_id` and the shard that owns it.
-use Rattle.std.specs.Prelude.{ℕ, List, [], ◌∷◌, Option, codes}
+use Rattle.std.specs.Prelude.{◌≡◌, ℕ, List, [], ◌∷◌, map, Option, Some, codes}
 use Rattle.std.specs.FinMap.{FinMap, empty, get, insert, remove, values}
-use Rattle.std.specs.Ordering.{nat_cmp, ordering_then}
+use Rattle.std.specs.List.{IsDistinct}
+use Rattle.std.specs.Ordering.{nat_cmp, ordering_then, eq_by_cmp}
 use Rattle.std.specs.declared.cmp.Ordering.{Ordering}
 use Rattle.resh_value.specs.Order.{compare_of}
 use Rattle.resh_value.specs.declared.value.Value.{Value}
@@ -40,3 +41,16 @@ documents bag = values bag
 abbrev pub opening_bag : Chunks → List Document → Bag
 opening_bag old_map [] = empty
 opening_bag old_map (d ∷ ds) = put (opening_bag old_map ds) (owner_of old_map d) d
+
+-- the place that a map gives a document
+abbrev pub place_of : Chunks → Document → Value × ℕ
+place_of chunks document = (id_of document, owner_of chunks document)
+
+-- no two documents of a list have one place
+abbrev pub HasDistinctPlaces : Chunks → List Document → Type 0
+HasDistinctPlaces chunks ds = IsDistinct (eq_by_cmp place_cmp) (map (place_of chunks) ds)
+
+-- what the bag holds stands at the place that the map gives it
+pub record IsPlaced (chunks : Chunks) (bag : Bag) : Type 0 where
+  pub by_id : (shard : ℕ) (id : Value) (document : Document) → held bag shard id ≡ Some document → id_of document ≡ id
+  pub by_owner : (shard : ℕ) (id : Value) (document : Document) → held bag shard id ≡ Some document → owner_of chunks document ≡ shard

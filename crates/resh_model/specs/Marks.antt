@@ -1,7 +1,6 @@
 -- A run without clients: one mark, the end that it has, and what each shard then holds.
 use Rattle.std.specs.Prelude.{◌≡◌, ℕ, List, [], ◌∷◌}
 use Rattle.resh_value.specs.declared.value.Value.{Value}
-use Rattle.resh_value.specs.declared.value.ShardId.{ShardId}
 use Rattle.resh_chunks.specs.Chunks.{Chunks}
 use Rattle.resh_coord.specs.declared.cause.Cause.{Cause}
 use Rattle.resh_coord.specs.declared.cause.Cause.TheVariants.{Clash}

@@ -1,5 +1,6 @@
 -- Where a chunk map places the documents of a bag, and what would clash there.
-use Rattle.std.specs.Prelude.{◌≡◌, ◌≢◌, ℕ, ◌+◌, ◌==◌, zero, suc, List, [], ◌∷◌, ◌++◌, filter, Some}
+use Rattle.std.specs.Prelude.{◌≡◌, ◌≢◌, ℕ, ◌==◌, List, map, filter, Some}
+use Rattle.std.specs.List.{flat_map, range_with_len}
 use Rattle.std.specs.Ordering.{nat_cmp, ordering_then}
 use Rattle.std.specs.declared.cmp.Ordering.{Ordering}
 use Rattle.std.specs.declared.cmp.Ordering.TheVariants.{Greater}
@@ -12,14 +13,13 @@ use Rattle.resh_model.specs.Bag.{Bag, Document, held, documents}
 abbrev pub part : Chunks → Bag → ℕ → List Document
 part chunks bag shard = filter (λ d. owner_of chunks d == shard) (documents bag)
 
--- the parts of the first shards
-abbrev pub parts_below : ℕ → (ℕ → List Document) → List (List Document)
-parts_below zero at = []
-parts_below (suc n) at = parts_below n at ++ at n ∷ []
-
--- the part of each shard
+-- the part of each shard, from shard 0 on
 abbrev pub parts : Chunks → Bag → List (List Document)
-parts chunks bag = parts_below chunks.shards (part chunks bag)
+parts chunks bag = map (part chunks bag) (range_with_len 0 chunks.shards)
+
+-- the documents of all parts, one part after another
+abbrev pub all_of : List (List Document) → List Document
+all_of ps = flat_map (λ p. p) ps
 
 -- two documents of one `_id` and of different shards that the new map would bring to one shard
 pub record IsClash (new_map : Chunks) (bag : Bag) (shard : ℕ) (id : Value) : Type 0 where
@@ -44,8 +44,3 @@ clash_cmp a b = ordering_then (nat_cmp a.0 b.0) (compare_of a.1 b.1)
 pub record IsFirstClash (new_map : Chunks) (bag : Bag) (shard : ℕ) (id : Value) : Type 0 where
   pub clash : IsClash new_map bag shard id
   pub first : (s : ℕ) (i : Value) → IsClash new_map bag s i → clash_cmp (shard, id) (s, i) ≢ Greater
-
--- the documents of all parts, one part after another
-abbrev pub all_of : List (List Document) → List Document
-all_of [] = []
-all_of (p ∷ ps) = p ++ all_of ps

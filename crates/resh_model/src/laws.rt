@@ -1,13 +1,28 @@
-ghost use Rattle.std.specs.Prelude.{◌≡◌};
-ghost use Rattle.std.specs.List.Sorted.{IsPermutation};
-ghost use Rattle.resh_model.specs.Bag.{Bag, documents};
-ghost use Rattle.resh_model.specs.Placement.{parts, all_of};
+//! Laws of the collection, each a contract of a function that does nothing.
 
-use resh_chunks::ChunkMap;
+ghost use Rattle.resh_model.specs.Laws.{KeepsAll, NoClashInPlace, OpensPlaced, OpensWhole, PartsRise, PutsOne, RemovesOne, SameByPlace};
 
-/// A law: the parts of a bag, one after another, are the bag's documents in another order, so that each stands in
-/// exactly one part.
-pub fn placement_keeps_all(_map: &ChunkMap)
-    ensures { (bag : Bag) → IsPermutation (documents bag) (all_of (parts _map.now bag)) }
-{
-}
+/// A bag is what stands at its places, and puts and removals act place by place.
+pub fn bag_laws()
+    ensures puts { PutsOne }
+    ensures removes { RemovesOne }
+    ensures same { SameByPlace }
+{}
+
+/// A bag opens with the documents of a list, each under its owner, and holds no other.
+pub fn opening_laws()
+    ensures placed { OpensPlaced }
+    ensures whole { OpensWhole }
+{}
+
+/// The parts of a bag, one after another, are the bag's documents in another order, so that each stands in exactly
+/// one part.
+pub fn placement_keeps_all()
+    ensures { KeepsAll }
+{}
+
+/// Where no clash stands, no `_id` stands twice on a shard; the map that placed the bag has no clash.
+pub fn parts_rise()
+    ensures own_map { NoClashInPlace }
+    ensures rise { PartsRise }
+{}

@@ -3,4 +3,4 @@
 
 mod laws;
 
-pub use laws::placement_keeps_all;
+pub use laws::{bag_laws, opening_laws, parts_rise, placement_keeps_all};
