@@ -78,3 +78,45 @@ impl End {
         }
     }
 }
+
+#[cfg(test)]
+mod tests {
+    use super::*;
+    use resh_value::Words;
+    use std::test::Fail;
+
+    #[test]
+    fn copies(rt: HostRuntime) -> Result<(), Fail> {
+        let alloc = rt.alloc();
+        let id = Value::Text(Words::of(alloc, "ann")?);
+        let clash = Cause::Clash {
+            shard: ShardId(3),
+            id,
+        };
+        match clash.copied(alloc)? {
+            Cause::Clash {
+                shard,
+                id: Value::Text(name),
+            } => {
+                assert_eq!(rt; shard, ShardId(3));
+                assert_eq!(rt; name.as_str(), "ann");
+            }
+            _ => panic!(rt; "another cause"),
+        }
+        let asked = End::Aborted(Cause::Asked {
+            client: 2,
+            number: 7,
+        });
+        match asked.copy(alloc)? {
+            End::Aborted(Cause::Asked { client, number }) => assert_eq!(rt;
+                (client, number),
+                (2, 7)
+            ),
+            _ => panic!(rt; "another end"),
+        }
+        match End::Committed.copy(alloc)? {
+            End::Committed => Ok(()),
+            End::Aborted(_) => panic!(rt; "aborted"),
+        }
+    }
+}

@@ -108,8 +108,10 @@ mod tests {
         ];
         for (assign, unset, want) in cases {
             let mut fields = document(alloc, "a b c", 1)?;
-            let change = Change::new(document(alloc, assign, 2)?, list(alloc, unset)?);
-            fields.apply_change(&change.ok_or("apart")?.copied(alloc)?)?;
+            match Change::new(document(alloc, assign, 2)?, list(alloc, unset)?) {
+                Some(change) => fields.apply_change(&change.copied(alloc)?)?,
+                None => panic!(rt; "{assign} and {unset} aren't apart"),
+            }
             assert_eq!(rt; text(alloc, &fields)?.as_str(), want);
         }
         let both = Change::new(document(alloc, "a b", 1)?, list(alloc, "c b")?);
