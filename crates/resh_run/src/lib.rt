@@ -4,6 +4,8 @@
 mod decision;
 mod placement;
 mod plain;
+#[cfg(test)]
+mod tests;
 mod texts;
 mod words;
 
