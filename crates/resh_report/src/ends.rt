@@ -1,6 +1,6 @@
 //! How a run ended, in words.
 
-ghost use Rattle.std.specs.Prelude.{◌≡◌, ◌++◌, codes, IfOk};
+ghost use Rattle.std.specs.Prelude.{◌≡◌, ◌++◌, IfOk};
 ghost use Rattle.resh_report.specs.Page.{end_text, cause_text, node_text, why_text};
 
 use crate::text::{append, append_name, append_spaced, append_value};

@@ -1,6 +1,6 @@
 //! The page of a run.
 
-ghost use Rattle.std.specs.Prelude.{◌≡◌, [], ◌++◌, codes, flat_map, IfOk};
+ghost use Rattle.std.specs.Prelude.{◌≡◌, [], ◌++◌, flat_map, IfOk};
 ghost use Rattle.resh_report.specs.Page.{page_text, turn_lines, name_at, holdings_lines, shard_lines, document_line, end_line};
 
 use crate::ends::append_end;
