@@ -1,15 +1,12 @@
-mod OrderDepth
-pub mod FieldSteps
-pub mod Names
-pub mod Standing
+pub mod ChangeLaws
 pub mod DepthLemmas
+pub mod FieldLaws
+mod FieldSteps
 pub mod HexLemmas
+pub mod Names
+mod OrderDepth
 pub mod PathLemmas
 pub mod RisingLemmas
+mod Standing
 pub mod TagLemmas
 pub mod WalkLemmas
-pub mod Names
-mod FieldSteps
-mod Standing
-pub mod FieldLaws
-pub mod ChangeLaws
