@@ -25,6 +25,11 @@ mapped {X} {Y} f (y ∷ ys) x c = by (first_or_later y ys x c) (mapped f ys x)
     by (inl is) rest = (zero, omega arith, ap f is)
     by (inr there) rest = later_there (f y) (map f ys) (f x) (rest there)
 
+pub unmapped : {X Y : Type 0} (f : X → Y) (xs : List X) (y : Y) → Contains (map f xs) y → (x : X) × Contains xs x × (f x ≡ y)
+unmapped f [] y (k, within, is) = absurd (omega arith)
+unmapped f (x ∷ xs) y (zero, within, is) = (x, first_there x xs, is)
+unmapped f (x ∷ xs) y (suc k, within, is) = let w = unmapped f xs y (k, omega arith, is) in (w.0, later_there x xs w.0 w.1, w.2)
+
 -- what passes is kept, and what is kept was there and passes
 pub kept : {X : Type 0} (p : X → Bool) (xs : List X) (x : X) → Contains xs x → p x ≡ true → Contains (filter p xs) x
 kept p [] x (k, within, is) t = absurd (omega arith)

@@ -4,6 +4,7 @@
 mod decision;
 mod placement;
 mod plain;
+mod seat;
 #[cfg(test)]
 mod tests;
 mod texts;
