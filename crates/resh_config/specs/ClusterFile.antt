@@ -25,7 +25,8 @@ use Rattle.resh_chunks.specs.declared.faults.ChunkFault.{ChunkFault}
 use Rattle.resh_setup.specs.declared.setup.Setup.{Setup}
 use Rattle.resh_setup.specs.declared.fault.SetupFault.{SetupFault}
 use Rattle.resh_setup.specs.declared.fault.SetupFault.TheVariants.{NotJson, WrongKind, UnknownName, Value as InValue, Chunks as InChunks, SameId, NoId, OverLimit}
-use Rattle.resh_config.specs.Walk.{Read, at_step, row_with, field, field_or, number_in, text_in, count, list_in, some_of}
+use Rattle.resh_config.specs.declared.maps.Maps.{Maps}
+use Rattle.resh_config.specs.Walk.{Read, row_with, field, field_or, number_in, text_in, items_from, list_in, some_of, has_items}
 
 -- names of shards and clients have 1 to 16 of `a` to `z`, `0` to `9` and `_`
 abbrev pub is_node_byte : ℕ → Bool
@@ -63,7 +64,7 @@ end_named text = cond (same_name text (codes "MinKey")) (Ok Min) (cond (same_nam
 
 abbrev pub bound_in : Data → Read Bound
 bound_in (string text) = end_named text
-bound_in (array ds) = and_then (λ key. Ok (At key)) (list_in (count ds) bound_value_in (array ds))
+bound_in (array ds) = and_then (λ key. Ok (At key)) (items_from bound_value_in [] ds)
 bound_in null = Err (WrongKind [])
 bound_in (boolean b) = Err (WrongKind [])
 bound_in (number n) = Err (WrongKind [])
@@ -74,16 +75,22 @@ abbrev pub found_shard : Option ℕ → Read ShardId
 found_shard None = Err (UnknownName [])
 found_shard (Some s) = Ok (record { 0 = s })
 
-abbrev pub shard_in : List (List ℕ) → Data → Read ShardId
-shard_in shards d = and_then (λ name. cond (is_node_name name) (found_shard (position (same_name name) shards)) (Err (WrongKind []))) (text_in d)
+abbrev pub shard_named : List (List ℕ) → List ℕ → Read ShardId
+shard_named shards name = cond (is_node_name name) (found_shard (position (same_name name) shards)) (Err (WrongKind []))
 
-abbrev pub chunk_row_in : List (List ℕ) → List ChunkRow → Data → Read ChunkRow
-chunk_row_in shards before d =
-    and_then (λ ds. and_then (λ min. and_then (λ max. and_then (λ shard. Ok (record { min = min; max = max; shard = shard }))
+abbrev pub shard_in : List (List ℕ) → Data → Read ShardId
+shard_in shards d = and_then (shard_named shards) (text_in d)
+
+-- the fields of a chunk's row
+abbrev pub row_of : List (List ℕ) → Members → Read ChunkRow
+row_of shards ds =
+    and_then (λ min. and_then (λ max. and_then (λ shard. Ok (record { min = min; max = max; shard = shard }))
     (field ds (codes "shard") (shard_in shards)))
     (field ds (codes "max") bound_in))
-    (field ds (codes "min") bound_in))
-    (row_with (codes "min" ∷ codes "max" ∷ codes "shard" ∷ []) d)
+    (field ds (codes "min") bound_in)
+
+abbrev pub chunk_row_in : List (List ℕ) → List ChunkRow → Data → Read ChunkRow
+chunk_row_in shards before d = and_then (row_of shards) (row_with (codes "min" ∷ codes "max" ∷ codes "shard" ∷ []) d)
 
 abbrev pub tested_chunks : Chunks → Option ChunkFault → Read Chunks
 tested_chunks chunks None = Ok chunks
@@ -128,24 +135,10 @@ distinct_only (Some row) documents = Err (SameId row)
 abbrev pub documents_in : Chunks → Data → Read (List Document)
 documents_in chunks d = and_then (λ documents. distinct_only (first_same chunks [] documents) documents) (list_in 100000 document_in d)
 
--- whether a list that isn't read yet has items
-abbrev pub has_items : ℕ → Data → Read Bool
-has_items limit (array ds) = cond (nat_lt limit (count ds)) (Err (OverLimit [] limit)) (Ok (nat_lt 0 (count ds)))
-has_items limit null = Err (WrongKind [])
-has_items limit (boolean b) = Err (WrongKind [])
-has_items limit (number n) = Err (WrongKind [])
-has_items limit (string text) = Err (WrongKind [])
-has_items limit (object ds) = Err (WrongKind [])
-
 abbrev pub root_names : List (List ℕ)
 root_names = codes "version" ∷ codes "shards" ∷ codes "oldKey" ∷ codes "newKey" ∷ codes "oldChunks" ∷ codes "newChunks" ∷ codes "documents" ∷ codes "clients" ∷ codes "lanes" ∷ codes "batch" ∷ codes "steps" ∷ codes "plan" ∷ []
 
--- the keys and the chunk maps of a cluster file
-pub record Maps : Type 0 where
-  pub shards : List (List ℕ)
-  pub old_map : Chunks
-  pub new_map : Chunks
-
+-- the fields before the documents
 abbrev pub maps_in : Members → Read Maps
 maps_in ds =
     and_then (λ version. and_then (λ shards. and_then (λ old_key. and_then (λ new_key. and_then (λ old_map. and_then (λ new_map.
@@ -157,7 +150,7 @@ maps_in ds =
     (field ds (codes "shards") shards_in))
     (field ds (codes "version") (number_in 1 1))
 
--- the fields in their order, after the maps
+-- the documents and the fields after them
 abbrev pub rest_in : Maps → Members → Read Setup
 rest_in maps ds =
     and_then (λ documents. and_then (λ clients. and_then (λ lanes. and_then (λ batch. and_then (λ steps. and_then (λ plan.

@@ -1,2 +1,3 @@
 pub mod ClusterFile
+pub mod Validity
 pub mod Walk

@@ -1,5 +1,5 @@
 -- The walk through a JSON value: kinds, names, numbers, lists, and the first fault on the way.
-use Rattle.std.specs.Prelude.{◌≡◌, ℕ, ◌+◌, ◌^◌, Bool, true, false, cond, ◌&&◌, nat_lt, nat_le, List, [], ◌∷◌, ◌++◌, length, Option, Some, None, Result, Ok, Err}
+use Rattle.std.specs.Prelude.{◌≡◌, ◌≢◌, MatchResult, ℕ, ◌+◌, ◌^◌, Bool, true, false, cond, ◌&&◌, nat_lt, nat_le, List, [], ◌∷◌, ◌++◌, length, Option, Some, None, Result, Ok, Err}
 use Rattle.std.specs.List.{list_any}
 use Rattle.serde_json.specs.Data.{Num, unsigned, negative, float, Data, null, boolean, number, string, array, object, Items, no_items, item, Members, no_members, member}
 use Rattle.serde_json.specs.Find.{get_member}
@@ -12,6 +12,14 @@ use Rattle.resh_setup.specs.declared.fault.SetupFault.TheVariants.{NotJson, Miss
 
 abbrev pub Read : Type 0 → Type 0
 Read A = Result A SetupFault
+
+-- the fault is the one wanted, but for want of memory
+abbrev pub IsUnlessNoMemory : SetupFault → SetupFault → Type 0
+IsUnlessNoMemory fault wanted = fault ≢ NoMemory → fault ≡ wanted
+
+-- the answer, as it is seen, is the one wanted, but for want of memory
+abbrev pub GivesSeen : {A B : Type 0} → (A → B) → Result A SetupFault → Read B → Type 0
+GivesSeen seen answer wanted = MatchResult answer (λ x. wanted ≡ Ok (seen x)) (λ e. e ≢ NoMemory → wanted ≡ Err e)
 
 -- a fault inside, as it is seen from the path's beginning
 abbrev pub under : List ℕ → SetupFault → SetupFault
@@ -106,3 +114,12 @@ list_in limit read (object ds) = Err (WrongKind [])
 abbrev pub some_of : {A : Type 0} → List A → Read (List A)
 some_of [] = Err (WrongKind [])
 some_of (a ∷ as') = Ok (a ∷ as')
+
+-- whether a list that isn't read yet has items
+abbrev pub has_items : ℕ → Data → Read Bool
+has_items limit (array ds) = cond (nat_lt limit (count ds)) (Err (OverLimit [] limit)) (Ok (nat_lt 0 (count ds)))
+has_items limit null = Err (WrongKind [])
+has_items limit (boolean b) = Err (WrongKind [])
+has_items limit (number n) = Err (WrongKind [])
+has_items limit (string text) = Err (WrongKind [])
+has_items limit (object ds) = Err (WrongKind [])

@@ -1,15 +1,36 @@
 //! Reading a cluster file.
 #![tactic(auto)]
 
-ghost use Rattle.std.specs.Prelude.{MatchResult, ◌≢◌};
-ghost use Rattle.resh_config.specs.ClusterFile.{IsSetup, IsRefused};
+mod chunks;
+mod cluster_file;
+mod documents;
+mod faults;
+mod lists;
+mod maps;
+mod names;
+mod walk;
 
+ghost use Rattle.std.specs.Prelude.{◌≢◌, IfOk, MatchResult};
+ghost use Rattle.resh_config.specs.ClusterFile.{IsSetup, IsRefused};
+ghost use Rattle.resh_config.specs.Validity.{IsValid};
+
+use cluster_file::setup_in;
 use resh_setup::{Setup, SetupFault};
+use serde_json::Value as Json;
 use std::alloc::Global;
 
 /// The setup that the bytes of a cluster file are, or the first fault of the walk through it.
 pub fn read_setup(alloc: Global, bytes: &[u8]) -> Result<Setup, SetupFault>
-    ensures { MatchResult result (IsSetup bytes.now) (λ fault. fault ≢ SetupFault.NoMemory → IsRefused bytes.now fault) }
+    ensures exact { MatchResult result (IsSetup bytes.now) (λ fault. fault ≢ SetupFault.NoMemory → IsRefused bytes.now fault) }
+    ensures valid { IfOk result IsValid }
 {
-    Err(SetupFault::NoMemory)
+    match Json::from_slice(alloc, bytes) {
+        Ok(json) => setup_in(alloc, &json),
+        Err(error) => {
+            if error.is_memory() {
+                return Err(SetupFault::NoMemory);
+            }
+            Err(SetupFault::NotJson)
+        }
+    }
 }

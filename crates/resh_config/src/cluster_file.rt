@@ -1,0 +1,100 @@
+//! The fields of a cluster file, in their order.
+
+ghost use Rattle.serde_json.specs.View.{view, members_view};
+ghost use Rattle.resh_value.specs.Outcome.{Gives, and_then};
+ghost use Rattle.resh_config.specs.ClusterFile.{maps_in, rest_in, setup_in};
+
+use crate::chunks::Chunks;
+use crate::documents::Collection;
+use crate::lists::HasItems;
+use crate::maps::Maps;
+use crate::names::{Key, Shards};
+use crate::walk::{NumberIn, optional, required, row_with};
+use resh_setup::{Setup, SetupFault};
+use serde_json::{Map, Value as Json};
+use std::alloc::Global;
+
+/// The setup that a JSON value is, or the first fault of the walk through it.
+pub(crate) fn setup_in(alloc: Global, json: &Json) -> Result<Setup, SetupFault>
+    ensures { Gives SetupFault.NoMemory result (setup_in (view json.now)) }
+{
+    let names = [
+        "version",
+        "shards",
+        "oldKey",
+        "newKey",
+        "oldChunks",
+        "newChunks",
+        "documents",
+        "clients",
+        "lanes",
+        "batch",
+        "steps",
+        "plan",
+    ];
+    match row_with(alloc, json, &names) {
+        Ok(members) => setup_of(alloc, members),
+        Err(fault) => Err(fault),
+    }
+}
+
+fn setup_of(alloc: Global, members: &Map<String, Json>) -> Result<Setup, SetupFault>
+    ensures { Gives SetupFault.NoMemory result (and_then (λ maps. rest_in maps (members_view members.now.entries)) (maps_in (members_view members.now.entries))) }
+{
+    match maps_in(alloc, members) {
+        Ok(maps) => rest_in(alloc, maps, members),
+        Err(fault) => Err(fault),
+    }
+}
+
+/// The fields before the documents.
+#[tactic(auto, using(crate::proofs::KeyLemmas::few_shards))]
+fn maps_in(alloc: Global, members: &Map<String, Json>) -> Result<Maps, SetupFault>
+    ensures { Gives SetupFault.NoMemory result (maps_in (members_view members.now.entries)) }
+{
+    required(alloc, members, "version", NumberIn { low: 1, high: 1 })?;
+    let shards = required(alloc, members, "shards", Shards)?;
+    let old_key = required(alloc, members, "oldKey", Key)?;
+    let new_key = required(alloc, members, "newKey", Key)?;
+    let old_chunks = Chunks {
+        shards: &shards,
+        key: old_key,
+    };
+    let old_map = required(alloc, members, "oldChunks", old_chunks)?;
+    let new_chunks = Chunks {
+        shards: &shards,
+        key: new_key,
+    };
+    let new_map = required(alloc, members, "newChunks", new_chunks)?;
+    Ok(Maps {
+        shards,
+        old_map,
+        new_map,
+    })
+}
+
+/// The documents and the fields after them.
+fn rest_in(alloc: Global, maps: Maps, members: &Map<String, Json>) -> Result<Setup, SetupFault>
+    ensures { Gives SetupFault.NoMemory result (rest_in maps (members_view members.now.entries)) }
+{
+    let Maps {
+        shards,
+        old_map,
+        new_map,
+    } = maps;
+    let documents = required(alloc, members, "documents", Collection { map: &old_map })?;
+    let clients = optional(alloc, members, "clients", HasItems { limit: 16 }, false)?;
+    let lanes = optional(alloc, members, "lanes", NumberIn { low: 1, high: 16 }, 4)?;
+    let batch = optional(alloc, members, "batch", NumberIn { low: 1, high: 500 }, 500)?;
+    let steps = optional(alloc, members, "steps", HasItems { limit: 100_000 }, false)?;
+    let plan = optional(alloc, members, "plan", HasItems { limit: 1_000 }, false)?;
+    Ok(Setup {
+        shards,
+        old_map,
+        new_map,
+        documents,
+        lanes,
+        batch,
+        unbuilt: clients || steps || plan,
+    })
+}
