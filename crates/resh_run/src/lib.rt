@@ -3,6 +3,8 @@
 
 mod decision;
 mod placement;
+#[cfg(test)]
+mod placement_tests;
 mod plain;
 mod seat;
 #[cfg(test)]
