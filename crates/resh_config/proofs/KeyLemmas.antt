@@ -1,14 +1,13 @@
 -- The names of shards and keys that were read.
-use Rattle.std.proofs.Common.{◌≡◌, ◌∙◌, ℕ, ◌+◌, ◌≤◌, Bool, true, false, not, cond, ltb, List, [], ◌∷◌, ◌++◌, length, append_assoc, append-nil, Option, Some, None, Result, Ok, Err, refl, sym, ap, subst, arith}
+use Rattle.std.proofs.Common.{◌≡◌, ◌∙◌, ℕ, ◌≤◌, Bool, true, false, not, cond, List, [], ◌∷◌, ◌++◌, length, append_assoc, append-nil, Some, None, Ok, refl, sym, ap, subst, arith}
 use Rattle.std.specs.Prelude.{◌&&◌, ◌||◌, nat_lt, option_map}
 use Rattle.std.specs.List.{list_any}
 use Rattle.std.proofs.lemmas.Bool.{le-ltb}
 use Rattle.serde_json.specs.Data.{Data, Items, no_items, item}
 use Rattle.resh_value.specs.Names.{same_name}
 use Rattle.resh_chunks.specs.Pattern.{first_repeat, pattern_fault}
-use Rattle.resh_chunks.specs.declared.faults.PatternFault.{PatternFault}
 use Rattle.resh_chunks.specs.declared.faults.PatternFault.TheVariants.{Count, Repeated}
-use Rattle.resh_config.specs.Walk.{Read, items_from, list_in, some_of, text_in}
+use Rattle.resh_config.specs.Walk.{items_from, list_in, some_of, text_in}
 use Rattle.resh_config.specs.ClusterFile.{accept, is_field_name, key_name_in, key_in, shard_name_in, shards_in}
 use Rattle.resh_config.proofs.Outcomes.{Ok-and_then}
 use Rattle.resh_config.proofs.ListLemmas.{Ok-items_from, Ok-list_in, Ok-some_of, within_limit}

@@ -1,6 +1,6 @@
 mod KeyLemmas
 mod ListLemmas
 mod Outcomes
-mod Readings
+pub mod Readings
 mod SamePlaces
-pub mod SetupLemmas
+mod SetupLemmas

@@ -1,5 +1,5 @@
 -- The places that earlier rows have.
-use Rattle.std.proofs.Common.{◌≡◌, ◌∙◌, ℕ, ◌+◌, ◌<◌, ◌≤◌, ◌==◌, Bool, true, false, cond, not, ltb, eq-eqb, get_or, subst, List, [], ◌∷◌, ◌++◌, length, length-append, Bor, Option, Some, None, BTreeSet, refl, sym, ap, arith}
+use Rattle.std.proofs.Common.{◌≡◌, ◌∙◌, ℕ, ◌+◌, ◌<◌, ◌≤◌, ◌==◌, Bool, true, false, cond, ltb, eq-eqb, get_or, subst, List, [], ◌∷◌, ◌++◌, length, length-append, Bor, Some, BTreeSet, refl, sym, ap, arith}
 use Rattle.std.specs.Prelude.{◌&&◌, ◌||◌, codes}
 use Rattle.std.specs.declared.cmp.Ordering.{Ordering}
 use Rattle.std.specs.declared.cmp.Ordering.TheVariants.{Less, Equal, Greater}

@@ -1,11 +1,10 @@
 -- A setup that was read is valid.
-use Rattle.std.proofs.Common.{◌≡◌, ◌≢◌, ◌∙◌, ℕ, Bool, true, false, cond, List, [], ◌∷◌, ◌++◌, length, Option, Some, None, Result, Ok, Err, refl, sym, ap, subst}
+use Rattle.std.proofs.Common.{◌≡◌, ◌∙◌, ℕ, Bool, true, false, cond, List, [], ◌∷◌, ◌++◌, length, Option, Some, None, Result, Ok, Err, refl, sym, ap, subst}
 use Rattle.std.specs.Prelude.{◌&&◌, ◌||◌, nat_lt, codes, IfOk}
 use Rattle.std.specs.List.{list_all}
 use Rattle.std.proofs.lemmas.List.Folds.{list_all-append}
 use Rattle.serde_json.specs.Data.{Data, Items, no_items, item, Members}
 use Rattle.serde_json.specs.Find.{get_member}
-use Rattle.resh_value.specs.Lookup.{field_of}
 use Rattle.resh_value.specs.Paths.{to_name}
 use Rattle.resh_value.specs.Outcome.{and_then, in_err, Gives}
 use Rattle.resh_value.specs.FromJson.{document_of}
@@ -17,7 +16,7 @@ use Rattle.resh_setup.specs.declared.setup.Setup.{Setup}
 use Rattle.resh_setup.specs.declared.fault.SetupFault.{SetupFault}
 use Rattle.resh_setup.specs.declared.fault.SetupFault.TheVariants.{NoId, OverLimit, NoMemory, Value as InValue}
 use Rattle.resh_config.specs.declared.maps.Maps.{Maps}
-use Rattle.resh_config.specs.Walk.{Read, under, required, optional, field, field_or, row_with, number_in, has_items, list_in, items_from}
+use Rattle.resh_config.specs.Walk.{Read, under, required, field, field_or, row_with, number_in, has_items, list_in, items_from}
 use Rattle.resh_config.specs.ClusterFile.{Document, with_rules, document_in, documents_in, distinct_only, first_same, chunk_row_in, tested_chunks, chunks_in, shards_in, key_in, root_names, maps_in, rest_in, setup_in}
 use Rattle.resh_config.specs.Validity.{has_id, IsValid}
 use Rattle.resh_config.proofs.Outcomes.{Ok-and_then, Ok-in_err}

@@ -1,5 +1,5 @@
 -- The cluster file: which setup a JSON value is, or its first fault.
-use Rattle.std.specs.Prelude.{◌≡◌, ℕ, ◌+◌, Bool, true, false, cond, not, ◌&&◌, ◌||◌, ◌==◌, nat_lt, nat_le, is_some, List, [], ◌∷◌, ◌++◌, length, slice_index, position, codes, Option, Some, None, Result, Ok, Err}
+use Rattle.std.specs.Prelude.{◌≡◌, ℕ, Bool, false, cond, not, ◌&&◌, ◌||◌, ◌==◌, nat_lt, nat_le, List, [], ◌∷◌, ◌++◌, length, slice_index, position, codes, Option, Some, None, Ok, Err}
 use Rattle.std.specs.List.{list_all, list_any}
 use Rattle.std.specs.Char.{is_ascii_digit}
 use Rattle.std.specs.Int.{is_in_range}
@@ -14,7 +14,6 @@ use Rattle.resh_value.specs.Outcome.{and_then, in_err}
 use Rattle.resh_value.specs.FromJson.{value_of, document_of}
 use Rattle.resh_value.specs.Text.{document_text}
 use Rattle.resh_value.specs.declared.value.Value.{Value}
-use Rattle.resh_value.specs.declared.value.Value.TheVariants.{Null}
 use Rattle.resh_value.specs.declared.value.ShardId.{ShardId}
 use Rattle.resh_chunks.specs.Pattern.{value_under}
 use Rattle.resh_chunks.specs.Chunks.{Chunks, chunk_fault, owner_of}

@@ -1,5 +1,5 @@
 -- What each setup that was read keeps.
-use Rattle.std.specs.Prelude.{◌≡◌, ℕ, Bool, true, List, [], length, None, codes}
+use Rattle.std.specs.Prelude.{◌≡◌, Bool, true, [], length, None, codes}
 use Rattle.std.specs.List.{list_all}
 use Rattle.resh_value.specs.Lookup.{field_of}
 use Rattle.resh_chunks.specs.Chunks.{chunk_fault}

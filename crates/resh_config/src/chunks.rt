@@ -19,7 +19,7 @@ use std::alloc::Global;
 /// So many chunks a map may have.
 const MOST_CHUNKS: u64 = 64;
 
-/// A chunk map over a key.
+/// Reads a chunk map over a key.
 #[derive(Drop)]
 pub(crate) struct Chunks<'a> {
     pub(crate) shards: &'a Names,
@@ -84,7 +84,7 @@ fn row_of(
     Ok(ChunkRow { min, max, shard })
 }
 
-/// An end of a chunk.
+/// Reads an end of a chunk.
 #[derive(Drop)]
 struct End;
 
@@ -133,7 +133,7 @@ impl ItemReader for KeyValue {
     }
 }
 
-/// The number of a shard that is there.
+/// Reads the number of a shard that is there.
 #[derive(Drop)]
 struct Shard<'a> {
     shards: &'a Names,

@@ -24,7 +24,7 @@ const MOST_DOCUMENTS: u64 = 100_000;
 /// So many bytes a document's text may have.
 const LONGEST_TEXT: u64 = 16_384;
 
-/// The documents of the collection, which go to their owners under a map.
+/// Reads the documents of the collection, which go to their owners under a map.
 #[derive(Drop)]
 pub(crate) struct Collection<'a> {
     pub(crate) map: &'a ChunkMap,

@@ -92,7 +92,7 @@ pub(crate) fn some_of<T: Drop>(alloc: Global, items: Sequence<T>) -> Result<Sequ
     Ok(items)
 }
 
-/// Whether a list that isn't read yet has items.
+/// Tells whether a list that isn't read yet has items.
 #[derive(Drop)]
 pub(crate) struct HasItems {
     pub(crate) limit: u64,

@@ -24,7 +24,7 @@ const MOST_KEY_NAMES: u64 = 3;
 /// So many bytes the name of a shard may have.
 const LONGEST_NODE_NAME: usize = 16;
 
-/// The names of the shards.
+/// Reads the names of the shards.
 #[derive(Drop)]
 pub(crate) struct Shards;
 
@@ -62,7 +62,7 @@ impl ItemReader for ShardName {
     }
 }
 
-/// The names of a key's fields.
+/// Reads the names of a key's fields.
 #[derive(Drop)]
 pub(crate) struct Key;
 

@@ -113,7 +113,7 @@ fn read_under<R: FieldReader>(
     }
 }
 
-/// A whole number from `low` to `high`.
+/// Reads a whole number from `low` to `high`.
 #[derive(Drop)]
 pub(crate) struct NumberIn {
     pub(crate) low: u32,

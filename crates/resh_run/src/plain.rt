@@ -36,29 +36,34 @@ pub struct Outcome {
 /// Does what the words ask: `plain` reads a cluster file from the source, reshards its collection and writes the page.
 ///
 /// The whole text of `meant` is handed to the sink; where the sink fails, the status is 5.
-pub fn plain_main<S: Source, K: Sink>(alloc: Global, words: &[String], source: &mut S, sink: &mut K) -> Outcome
+pub fn plain_main<S: Source, K: Sink>(
+    alloc: Global,
+    words: &[String],
+    source: &mut S,
+    sink: &mut K,
+) -> Outcome
     ensures outcome { (text : List ℕ)
         × Means words.now (S.left source.old) (S.left source.new) (S.faults source.old) (S.faults source.new)
-            result.meant result.order result.end text
+        result.meant result.order result.end text
         × IsSent (K.written sink.old) (K.written sink.new) (K.faults sink.old) (K.faults sink.new)
-            text result.meant result.status result.sent }
+        text result.meant result.status result.sent }
     ensures headline { (bytes : List ℕ) (setup : Setup) → S.left source.old ≡ Some bytes → IsSetup bytes setup → result.meant ≤ 1
         → (text : List ℕ) × IsRunOf setup result.order result.end result.meant text
         × IsSent (K.written sink.old) (K.written sink.new) (K.faults sink.old) (K.faults sink.new)
-            text result.meant result.status result.sent }
+        text result.meant result.status result.sent }
     ensures usage { (result.meant ≡ 2) ↔ (is_plain words.now ≡ false) }
     ensures refused { (bytes : List ℕ) (fault : SetupFault) → IsFed words.now (S.left source.old) (S.faults source.old) (S.faults source.new) bytes
         → IsRefused bytes fault → (result.meant ≡ 6) ⊎ ((result.meant ≡ 3)
         × IsSent (K.written sink.old) (K.written sink.new) (K.faults sink.old) (K.faults sink.new)
-            (refusal_text fault) result.meant result.status result.sent) }
+        (refusal_text fault) result.meant result.status result.sent) }
     ensures not_built { (bytes : List ℕ) (setup : Setup) → IsFed words.now (S.left source.old) (S.faults source.old) (S.faults source.new) bytes
         → IsSetup bytes setup → setup.unbuilt ≡ true → (result.meant ≡ 6) ⊎ ((result.meant ≡ 3)
         × IsSent (K.written sink.old) (K.written sink.new) (K.faults sink.old) (K.faults sink.new)
-            not_built_text result.meant result.status result.sent) }
+        not_built_text result.meant result.status result.sent) }
     ensures too_long { (bytes : List ℕ) → is_plain words.now ≡ true → S.left source.old ≡ Some bytes → input_limit < length bytes
         → ¬ Rose (S.faults source.old) (S.faults source.new) → (result.meant ≡ 6) ⊎ ((result.meant ≡ 3)
         × IsSent (K.written sink.old) (K.written sink.new) (K.faults sink.old) (K.faults sink.new)
-            too_long_text result.meant result.status result.sent) }
+        too_long_text result.meant result.status result.sent) }
     ensures read_fault { result.meant ≡ 4 → Rose (S.faults source.old) (S.faults source.new) }
     ensures write_fault { result.status ≢ result.meant → (result.status ≡ 5) × Rose (K.faults sink.old) (K.faults sink.new) }
     ensures nothing_ran { 1 < result.meant → (result.order ≡ []) × (result.end ≡ None) }
@@ -97,7 +102,13 @@ fn send<K: Sink>(alloc: Global, said: Said, sink: &mut K) -> Outcome
     }
 }
 
-fn hand_over<K: Sink>(meant: u8, order: Turns, end: Option<End>, text: &[u8], sink: &mut K) -> Outcome
+fn hand_over<K: Sink>(
+    meant: u8,
+    order: Turns,
+    end: Option<End>,
+    text: &[u8],
+    sink: &mut K,
+) -> Outcome
     ensures meant { result.meant ≡ meant }
     ensures order { result.order ≡ order }
     ensures end { result.end ≡ end }

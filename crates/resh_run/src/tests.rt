@@ -7,8 +7,12 @@ use std::alloc::Global;
 use std::test::Fail;
 
 const HEAD: &str = r#"{"version":1,"shards":["a","b"],"oldKey":["x"],"newKey":["y"],"lanes":1,"#;
-const OLD: &str = r#""oldChunks":[{"min":"MinKey","max":[10],"shard":"a"},{"min":[10],"max":"MaxKey","shard":"b"}],"#;
-const NEW: &str = r#""newChunks":[{"min":"MinKey","max":[10],"shard":"a"},{"min":[10],"max":"MaxKey","shard":"b"}],"#;
+
+const OLD: &str =
+    r#""oldChunks":[{"min":"MinKey","max":[10],"shard":"a"},{"min":[10],"max":"MaxKey","shard":"b"}],"#;
+
+const NEW: &str =
+    r#""newChunks":[{"min":"MinKey","max":[10],"shard":"a"},{"min":[10],"max":"MaxKey","shard":"b"}],"#;
 
 /// What the top call answered.
 struct Answer {
@@ -90,7 +94,11 @@ fn pages(rt: HostRuntime) -> Result<(), Fail> {
         let answer = ask(alloc, &["plain"], input.as_str(), &CALM)?;
         let want = format!(in alloc; "steps\norder\n{page}")?;
         assert_eq!(rt; answer.text.as_slice(), want.as_bytes(), "{documents}");
-        assert_eq!(rt; (answer.status, answer.meant), (status, status), "{documents}");
+        assert_eq!(rt;
+            (answer.status, answer.meant),
+            (status, status),
+            "{documents}"
+        );
         assert_eq!(rt; answer.sent, want.len() as u64, "{documents}");
     }
     Ok(())
@@ -101,10 +109,19 @@ fn refusals(rt: HostRuntime) -> Result<(), Fail> {
     let alloc = rt.alloc();
     let cases = [
         (r#""documents":[{"x":1}]"#, "no id \"/documents/0\""),
-        (r#""documents":[{"_id":1,"x":1.5}]"#, "not whole \"/documents/0/x\""),
-        (r#""documents":[{"_id":1,"v":{"$date":5}}]"#, "bad tag \"/documents/0/v\""),
+        (
+            r#""documents":[{"_id":1,"x":1.5}]"#,
+            "not whole \"/documents/0/x\"",
+        ),
+        (
+            r#""documents":[{"_id":1,"v":{"$date":5}}]"#,
+            "bad tag \"/documents/0/v\"",
+        ),
         (r#""documents":[],"lanes":17"#, "over limit 16 \"/lanes\""),
-        (r#""documents":[],"clients":[{"name":"c1","commands":[]}]"#, "not built yet"),
+        (
+            r#""documents":[],"clients":[{"name":"c1","commands":[]}]"#,
+            "not built yet",
+        ),
         (r#""documents":[],"steps":["begin"]"#, "not built yet"),
         (r#""documents":[}"#, "not JSON"),
     ];

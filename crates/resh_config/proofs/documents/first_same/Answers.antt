@@ -1,4 +1,4 @@
-use Rattle.std.proofs.Common.{◌≡◌, Bool, true, false, not, rules, arith}
+use Rattle.std.proofs.Common.{◌≡◌, Bool, true, false, not, arith}
 use Rattle.std.proofs.lemmas.Grind.{common_steps}
 use Rattle.resh_config.proofs.SamePlaces.{found_same, passed_more}
 use Rattle.resh_config.proofs.documents.first_same.Goals as goal

@@ -4,18 +4,20 @@ use Rattle.resh_run.proofs.Meant.{meant_of, runs, refuses, commits, sent_as, sta
 use Rattle.resh_run.proofs.plain.plain_main.Goals as goal
 
 pub returns-clause-outcome : goal.returns-clause-outcome
-returns-clause-outcome g c =
-    (text_in c.decide-said.result,
-    meant_of _ _ _ _ _ c.decide-said.result _ _ _ c.send.ensures.meant c.send.ensures.order c.send.ensures.end c.decide-said.ensures,
-    c.send.ensures.sent)
+returns-clause-outcome g c = (
+  text_in c.decide-said.result,
+  meant_of _ _ _ _ _ c.decide-said.result _ _ _ c.send.ensures.meant c.send.ensures.order c.send.ensures.end c.decide-said.ensures,
+  c.send.ensures.sent,
+)
 
 pub returns-clause-headline : goal.returns-clause-headline
-returns-clause-headline g c = λ bytes setup told is low.
-    (text_in c.decide-said.result,
-    runs c.args.words.now (g.S.Source.left c.args.source.now) (g.S.Source.left c.decide-said.new.source) (g.S.Source.faults c.args.source.now) (g.S.Source.faults c.decide-said.new.source)
-    _ _ _ _ bytes setup told is low
-    (meant_of _ _ _ _ _ c.decide-said.result _ _ _ c.send.ensures.meant c.send.ensures.order c.send.ensures.end c.decide-said.ensures),
-    c.send.ensures.sent)
+returns-clause-headline g c = λ bytes setup told is low. (
+  text_in c.decide-said.result,
+  runs c.args.words.now (g.S.Source.left c.args.source.now) (g.S.Source.left c.decide-said.new.source) (g.S.Source.faults c.args.source.now) (g.S.Source.faults c.decide-said.new.source)
+      _ _ _ _ bytes setup told is low
+      (meant_of _ _ _ _ _ c.decide-said.result _ _ _ c.send.ensures.meant c.send.ensures.order c.send.ensures.end c.decide-said.ensures),
+  c.send.ensures.sent,
+)
 
 pub returns-clause-refused : goal.returns-clause-refused
 returns-clause-refused g c = λ bytes fault fed is.
