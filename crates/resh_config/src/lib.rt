@@ -8,6 +8,8 @@ mod faults;
 mod lists;
 mod maps;
 mod names;
+#[cfg(test)]
+mod tests;
 mod walk;
 
 ghost use Rattle.std.specs.Prelude.{◌≢◌, IfOk, MatchResult};
