@@ -6,7 +6,7 @@ use Rattle.resh_value.specs.Outcome.{Gives}
 use Rattle.resh_setup.specs.declared.setup.Setup.{Setup}
 use Rattle.resh_setup.specs.declared.fault.SetupFault.{SetupFault}
 use Rattle.resh_setup.specs.declared.fault.SetupFault.TheVariants.{NoMemory}
-use Rattle.resh_config.specs.ClusterFile.{IsReading, read, IsSetup, IsRefused, setup_in}
+use Rattle.resh_config.specs.ClusterFile.{IsReading, read, no_reading, IsSetup, IsRefused, setup_in}
 use Rattle.resh_config.specs.Validity.{IsValid}
 use Rattle.resh_config.proofs.SetupLemmas.{setup_valid}
 
