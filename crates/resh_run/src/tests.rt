@@ -15,6 +15,7 @@ const NEW: &str =
     r#""newChunks":[{"min":"MinKey","max":[10],"shard":"a"},{"min":[10],"max":"MaxKey","shard":"b"}],"#;
 
 /// What the top call answered.
+#[derive(Drop)]
 struct Answer {
     status: u8,
     meant: u8,
@@ -23,6 +24,7 @@ struct Answer {
 }
 
 /// Ends whose calls of these numbers fail; 0 is no call's.
+#[derive(Drop)]
 struct Ends {
     read_fails: u64,
     write_fails: u64,
