@@ -9,7 +9,8 @@ use Rattle.std.specs.declared.cmp.Ordering.TheVariants.{Less, Equal, Greater}
 use Rattle.resh_value.specs.Order.{compare_of}
 use Rattle.resh_value.specs.declared.value.Value.{Value}
 use Rattle.resh_chunks.specs.Bounds.{bound_cmp, has_key, has_wrong_length}
-use Rattle.resh_chunks.specs.Pattern.{key_of, value_under}
+use Rattle.resh_chunks.specs.Pattern.{key_of}
+use Rattle.resh_value.specs.Lookup.{value_under}
 use Rattle.resh_chunks.specs.declared.bound.Bound.{Bound}
 use Rattle.resh_chunks.specs.declared.bound.Bound.TheVariants.{Min, At, Max}
 use Rattle.resh_chunks.specs.declared.bound.ChunkRow.{ChunkRow}

@@ -2,7 +2,7 @@
 use Rattle.std.specs.Prelude.{ℕ, cond, ◌||◌, nat_lt, List, [], ◌∷◌, ◌++◌, length, map, slice_get, Option, Some, None, unwrap_or, option_map}
 use Rattle.std.specs.List.{list_any}
 use Rattle.resh_value.specs.Names.{same_name}
-use Rattle.resh_value.specs.Lookup.{field_of}
+use Rattle.resh_value.specs.Lookup.{value_under}
 use Rattle.resh_value.specs.declared.value.Value.{Value}
 use Rattle.resh_value.specs.declared.value.Value.TheVariants.{Null}
 use Rattle.resh_chunks.specs.declared.faults.PatternFault.{PatternFault}
@@ -15,10 +15,6 @@ first_repeat before (name ∷ names) = cond (list_any (same_name name) before) (
 
 abbrev pub pattern_fault : List (List ℕ) → Option PatternFault
 pattern_fault names = cond (nat_lt (length names) 1 || nat_lt 3 (length names)) (Some (Count (length names))) (option_map Repeated (first_repeat [] names))
-
--- what a document has under a name, null where it has nothing
-abbrev pub value_under : List (List ℕ × Value) → List ℕ → Value
-value_under document name = unwrap_or (field_of document name) Null
 
 -- the values that a document has under the pattern's names
 abbrev pub key_of : List (List ℕ) → List (List ℕ × Value) → List Value

@@ -5,7 +5,8 @@ ghost use Rattle.std.specs.Ordering.{is_eq};
 ghost use Rattle.resh_value.specs.Order.{compare_of};
 ghost use Rattle.resh_value.specs.declared.value.Value.{Value};
 ghost use Rattle.resh_chunks.specs.Bounds.{key_cmp, ends_above, IsFirstAbove};
-ghost use Rattle.resh_chunks.specs.Pattern.{key_of, value_under, value_at};
+ghost use Rattle.resh_chunks.specs.Pattern.{key_of, value_at};
+ghost use Rattle.resh_value.specs.Lookup.{value_under};
 
 use crate::bound::{Bound, ChunkRow, Key};
 use crate::pattern::{KeyPattern, MOST_NAMES};

@@ -7,7 +7,7 @@ use Rattle.std.specs.Str.{IsUtf8}
 use Rattle.serde_json.specs.Data.{Data, null, boolean, number, string, array, object, Members}
 use Rattle.serde_json.specs.Read.{read as read_text}
 use Rattle.resh_value.specs.Names.{same_name}
-use Rattle.resh_value.specs.Lookup.{field_of}
+use Rattle.resh_value.specs.Lookup.{field_of, value_under}
 use Rattle.std.specs.Ordering.{is_eq}
 use Rattle.resh_value.specs.Order.{compare_of, kind}
 use Rattle.resh_value.specs.Outcome.{and_then, in_err}
@@ -15,7 +15,6 @@ use Rattle.resh_value.specs.FromJson.{value_of, document_of}
 use Rattle.resh_value.specs.Text.{document_text}
 use Rattle.resh_value.specs.declared.value.Value.{Value}
 use Rattle.resh_value.specs.declared.value.ShardId.{ShardId}
-use Rattle.resh_chunks.specs.Pattern.{value_under}
 use Rattle.resh_chunks.specs.Chunks.{Chunks, chunk_fault, owner_of}
 use Rattle.resh_chunks.specs.declared.bound.Bound.{Bound}
 use Rattle.resh_chunks.specs.declared.bound.Bound.TheVariants.{Min, At, Max}

@@ -1,11 +1,10 @@
 //! Documents, each with an `_id` that no other on its shard has.
 
 ghost use Rattle.std.specs.Prelude.{◌≡◌, ◌==◌, [], codes, length, IfOk};
-ghost use Rattle.resh_value.specs.Lookup.{field_of};
+ghost use Rattle.resh_value.specs.Lookup.{field_of, value_under};
 ghost use Rattle.resh_value.specs.Order.{kind};
 ghost use Rattle.resh_value.specs.Outcome.{Gives};
 ghost use Rattle.resh_value.specs.Text.{document_text};
-ghost use Rattle.resh_chunks.specs.Pattern.{value_under};
 ghost use Rattle.resh_config.specs.ClusterFile.{is_id, with_rules, document_in, documents_in, first_same, distinct_only};
 
 use crate::faults::{in_value, no_id, no_path, over_limit};

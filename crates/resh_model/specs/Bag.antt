@@ -6,7 +6,7 @@ use Rattle.std.specs.Ordering.{nat_cmp, ordering_then, eq_by_cmp}
 use Rattle.std.specs.declared.cmp.Ordering.{Ordering}
 use Rattle.resh_value.specs.Order.{compare_of}
 use Rattle.resh_value.specs.declared.value.Value.{Value}
-use Rattle.resh_chunks.specs.Pattern.{value_under}
+use Rattle.resh_value.specs.Lookup.{value_under}
 use Rattle.resh_chunks.specs.Chunks.{Chunks, owner_of}
 
 abbrev pub Document : Type 0

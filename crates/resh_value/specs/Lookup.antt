@@ -1,12 +1,18 @@
 -- A document's fields by name.
-use Rattle.std.specs.Prelude.{◌≡◌, ℕ, ◌<◌, ◌≤◌, List, Option, Some, None, length, slice_get, slice_set, insert, remove}
+use Rattle.std.specs.Prelude.{◌≡◌, ℕ, ◌<◌, ◌≤◌, List, Option, Some, None, length, slice_get, slice_set, insert, remove, unwrap_or}
 use Rattle.std.specs.BTreeMap.{is_at, insert_entry}
 use Rattle.std.specs.Map.{lookup, remove_entry}
 use Rattle.resh_value.specs.Names.{name_cmp, HasRisingNames}
+use Rattle.resh_value.specs.declared.value.Value.{Value}
+use Rattle.resh_value.specs.declared.value.Value.TheVariants.{Null}
 
 -- what stands under a name
 abbrev pub field_of : {X : Type 0} → List (List ℕ × X) → List ℕ → Option X
 field_of fields name = lookup (is_at (name_cmp name)) fields
+
+-- what a document has under a name, null where it has nothing
+abbrev pub value_under : List (List ℕ × Value) → List ℕ → Value
+value_under document name = unwrap_or (field_of document name) Null
 
 -- the fields with a value under a name, in its place or new
 abbrev pub with_field : {X : Type 0} → List (List ℕ × X) → List ℕ → X → List (List ℕ × X)

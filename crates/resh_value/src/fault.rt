@@ -56,7 +56,7 @@ impl ValueFault {
     ghost use Rattle.resh_value.specs.Paths.{to_name, to_place};
 
     /// The fault as it is seen from further out, with `step` before its path.
-    pub(crate) fn under(self, alloc: Global, step: &Words) -> ValueFault
+    pub fn under(self, alloc: Global, step: &Words) -> ValueFault
         ensures { result ≢ ValueFault.NoMemory → result ≡ under step.now self }
     {
         match self {
