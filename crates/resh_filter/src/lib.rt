@@ -1,0 +1,12 @@
+//! Equality filters: which documents a filter matches.
+#![tactic(auto)]
+
+mod fault;
+mod filter;
+mod laws;
+#[cfg(test)]
+mod tests;
+
+pub use fault::FilterFault;
+pub use filter::Filter;
+pub use laws::filter_laws;
