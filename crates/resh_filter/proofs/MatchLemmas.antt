@@ -1,6 +1,6 @@
 -- What a filter matches, pair by pair.
 use Rattle.std.proofs.Common.{◌≡◌, ◌∙◌, ℕ, Bool, true, false, cond, List, [], ◌∷◌, Option, Some, None, refl, sym, ap, subst, arith}
-use Rattle.std.specs.Prelude.{◌&&◌, unwrap_or}
+use Rattle.std.specs.Prelude.{◌↔◌, ◌&&◌, unwrap_or}
 use Rattle.std.specs.List.{All}
 use Rattle.std.specs.Cmp.{Equal-is}
 use Rattle.std.specs.Ordering.{is_eq}
@@ -18,7 +18,7 @@ use Rattle.resh_value.specs.declared.value.Value.{Value}
 use Rattle.resh_value.specs.declared.value.Value.TheVariants.{Null}
 use Rattle.resh_value.proofs.FieldLaws.{field_of-below}
 use Rattle.resh_value.proofs.Names.{by_order, name_cmp-itself, same_from_equal}
-use Rattle.resh_filter.specs.Filters.{agrees, matches}
+use Rattle.resh_filter.specs.Filters.{agrees, matches, HasValues}
 use Rattle.resh_filter.specs.Laws.{MatchesByName, MatchesOwnFields, MatchesItself, NullIsMissing, EmptyMatchesAll}
 
 abbrev Fields : Type 0
@@ -42,7 +42,7 @@ same_value : (x y : Value) → Some x ≡ Some y → x ≡ y
 same_value x y e = cc
 
 -- a filter that matches agrees under each name that it gives
-matching_agrees : (fs document : Fields) → matches fs document ≡ true → (name : List ℕ) (value : Value) → field_of fs name ≡ Some value → value_under document name ≡ value
+pub matching_agrees : (fs document : Fields) → matches fs document ≡ true → HasValues document fs
 matching_agrees [] document m name value is = cc
 matching_agrees (f ∷ fs) document m name value is =
     let both = and_parts (agrees document f) (matches fs document) m in
@@ -62,7 +62,7 @@ later_stands f fs s name value is =
     cc)
     (λ h. past (ap is_eq h))
 
-agreeing_matches : (fs document : Fields) → HasRisingNames fs → ((name : List ℕ) (value : Value) → field_of fs name ≡ Some value → value_under document name ≡ value) → matches fs document ≡ true
+agreeing_matches : (fs document : Fields) → HasRisingNames fs → HasValues document fs → matches fs document ≡ true
 agreeing_matches [] document s h = refl
 agreeing_matches (f ∷ fs) document s h =
     let here = same_agrees document f.0 f.1 (h f.0 f.1 (field_of-here f.0 f fs (name_cmp-itself f.0))) in
@@ -71,6 +71,10 @@ agreeing_matches (f ∷ fs) document s h =
 
 pub matches_by_name : MatchesByName
 matches_by_name filter document s = (matching_agrees filter document, agreeing_matches filter document s)
+
+-- the answer of a match is true exactly where the document has the filter's values
+pub answer_by_name : (filter document : Fields) (answer : Bool) → HasRisingNames filter → answer ≡ matches filter document → (answer ≡ true) ↔ HasValues document filter
+answer_by_name filter document answer s is = (λ e. matching_agrees filter document (sym is ∙ e), λ h. is ∙ agreeing_matches filter document s h)
 
 standing : (document : Fields) (name : List ℕ) (value : Value) → field_of document name ≡ Some value → value_under document name ≡ value
 standing document name value is = ap (λ o. unwrap_or o Null) is

@@ -1,5 +1,5 @@
 -- Filters: what is read as one, what one gives, and which documents it matches.
-use Rattle.std.specs.Prelude.{ℕ, Bool, cond, ◌==◌, List, ◌++◌, Option, Some, None, is_some, Result, Err}
+use Rattle.std.specs.Prelude.{◌≡◌, ℕ, Bool, cond, ◌==◌, List, ◌++◌, Option, Some, None, is_some, Result, Err}
 use Rattle.std.specs.List.{list_all, list_any}
 use Rattle.std.specs.Ordering.{is_eq}
 use Rattle.serde_json.specs.Data.{Data, null, boolean, number, string, array, object, Members, no_members, member}
@@ -58,6 +58,10 @@ agrees document pair = is_eq (compare_of pair.1 (value_under document pair.0))
 -- each pair of the filter agrees
 abbrev pub matches : List (List ℕ × Value) → List (List ℕ × Value) → Bool
 matches filter document = list_all (agrees document) filter
+
+-- the document has each value of the filter under its name, null where it has nothing
+abbrev pub HasValues : List (List ℕ × Value) → List (List ℕ × Value) → Type 0
+HasValues document filter = (name : List ℕ) (value : Value) → field_of filter name ≡ Some value → value_under document name ≡ value
 
 -- the filter has a pair of the name
 abbrev pub gives : List (List ℕ × Value) → List ℕ → Bool

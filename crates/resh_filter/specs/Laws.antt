@@ -1,16 +1,15 @@
 -- What filters match.
 use Rattle.std.specs.Prelude.{◌≡◌, ◌↔◌, ℕ, true, List, [], Some, None}
 use Rattle.std.specs.List.{All}
-use Rattle.resh_value.specs.Lookup.{field_of, value_under, without_field}
+use Rattle.resh_value.specs.Lookup.{field_of, without_field}
 use Rattle.resh_value.specs.Names.{HasRisingNames}
 use Rattle.resh_value.specs.declared.value.Value.{Value}
 use Rattle.resh_value.specs.declared.value.Value.TheVariants.{Null}
-use Rattle.resh_filter.specs.Filters.{matches}
+use Rattle.resh_filter.specs.Filters.{HasValues, matches}
 
--- a filter matches exactly where the document has each of its values under its name, null where it has nothing
+-- a filter matches exactly where the document has each of its values
 abbrev pub MatchesByName : Type 0
-MatchesByName = (filter document : List (List ℕ × Value)) → HasRisingNames filter
-    → (matches filter document ≡ true) ↔ ((name : List ℕ) (value : Value) → field_of filter name ≡ Some value → value_under document name ≡ value)
+MatchesByName = (filter document : List (List ℕ × Value)) → HasRisingNames filter → (matches filter document ≡ true) ↔ HasValues document filter
 
 -- fields that all stand in a document match it
 abbrev pub MatchesOwnFields : Type 0

@@ -1,7 +1,7 @@
-ghost use Rattle.std.specs.Prelude.{◌≡◌, IfOk, option_map};
+ghost use Rattle.std.specs.Prelude.{◌≡◌, ◌↔◌, IsTrue, IfOk, option_map};
 ghost use Rattle.serde_json.specs.View.{view, members_view};
 ghost use Rattle.resh_value.specs.Outcome.{Gives};
-ghost use Rattle.resh_filter.specs.Filters.{agrees, at_step, dotted_in, filter_of, first_dotted, gives, is_dotted, matches};
+ghost use Rattle.resh_filter.specs.Filters.{HasValues, agrees, at_step, dotted_in, filter_of, first_dotted, gives, is_dotted, matches};
 
 use crate::fault::{FilterFault, dotted_name, in_value};
 use resh_value::{Copied, Document, NoMemory, Value, Words, compare};
@@ -45,13 +45,12 @@ impl Filter {
     }
 
     /// Whether each pair's value equals what the document has under its name, null where it has nothing.
+    #[tactic(auto, using(crate::proofs::MatchLemmas::answer_by_name))]
     pub fn matches(&self, document: &Document) -> bool
-        ensures { result ≡ matches self.now document.now }
+        ensures value { result ≡ matches self.now document.now }
+        ensures exactly { IsTrue result ↔ HasValues document.now self.now }
     {
-        self.fields
-            .pairs()
-            .iter()
-            .all(|(name, value)| agrees(document, name, value))
+        all_agree(self.fields.pairs(), document)
     }
 
     /// Whether the filter has a pair of this name.
@@ -107,6 +106,14 @@ fn is_dotted(name: &str) -> bool
     ensures { result ≡ is_dotted name.now }
 {
     name.as_bytes().contains(&b'.')
+}
+
+fn all_agree(pairs: &[(Words, Value)], document: &Document) -> bool
+    ensures { result ≡ matches pairs.now document.now }
+{
+    pairs
+        .iter()
+        .all(|(name, value)| agrees(document, name, value))
 }
 
 fn agrees(document: &Document, name: &Words, value: &Value) -> bool

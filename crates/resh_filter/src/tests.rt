@@ -126,7 +126,11 @@ fn filters_match_documents(rt: HostRuntime) -> Result<(), Fail> {
         let document = document_of(alloc, row.get(1usize).ok_or("a document")?)?;
         let want = row.get(2usize).and_then(Json::as_bool).ok_or("an answer")?;
         assert_eq!(rt; filter.matches(&document), want, "{filter:?} {document:?}");
-        assert_eq!(rt; filter.copy()?.matches(&document), want, "{filter:?} {document:?}");
+        assert_eq!(rt;
+            filter.copy()?.matches(&document),
+            want,
+            "{filter:?} {document:?}"
+        );
     }
     filter_laws();
     Ok(())
