@@ -1,0 +1,5 @@
+pub mod Paths
+pub mod Operators
+pub mod Updates
+pub mod Changes
+pub mod Reading

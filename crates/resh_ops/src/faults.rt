@@ -1,0 +1,58 @@
+use resh_value::{NoMemory, ValueFault, Words};
+
+/// Why a JSON value is no update. A path is that of a field in the update, its names joined by dots.
+#[derive(Debug, Drop)]
+pub enum UpdateFault {
+    /// The operator isn't known.
+    UnknownOperator { name: Words },
+    /// The path equals, begins or extends an earlier one.
+    Conflict { path: Words },
+    /// A path begins with `_id`, which no update may change.
+    IdPath,
+    /// No path, or an operand that the operator doesn't take. Where an operator's operand is no object the path is
+    /// the operator's name, and where the update is no object or empty it is empty.
+    BadOperand { path: Words },
+    /// The operand is no value; this path is a JSON Pointer.
+    Value(ValueFault),
+    NoMemory,
+}
+
+impl From<NoMemory> for UpdateFault {
+    ghost use Rattle.std.specs.Prelude.{◌≡◌};
+    ghost use Rattle.resh_ops.specs.declared.faults.UpdateFault.TheVariants.{NoMemory};
+
+    ghost from_gives = { λ e f. f ≡ NoMemory };
+
+    fn from(_: NoMemory) -> UpdateFault {
+        UpdateFault::NoMemory
+    }
+}
+
+/// Why an update can't be made on a document. A path is that of a field, its names joined by dots.
+#[derive(Debug, Drop)]
+pub enum ChangeFault {
+    /// The field is there and holds no number.
+    NotNumber { path: Words },
+    /// The sum or product isn't within 64 bits.
+    OutOfRange { path: Words },
+    /// The field is there and holds no array.
+    NotArray { path: Words },
+    /// The path leads through a value that is no document.
+    ThroughScalar { path: Words },
+    /// The result's text is longer than the limit.
+    TooLarge,
+    /// The result has more than 32 levels.
+    TooDeep,
+    NoMemory,
+}
+
+impl From<NoMemory> for ChangeFault {
+    ghost use Rattle.std.specs.Prelude.{◌≡◌};
+    ghost use Rattle.resh_ops.specs.declared.faults.ChangeFault.TheVariants.{NoMemory};
+
+    ghost from_gives = { λ e f. f ≡ NoMemory };
+
+    fn from(_: NoMemory) -> ChangeFault {
+        ChangeFault::NoMemory
+    }
+}

@@ -1,0 +1,11 @@
+//! Update operators: what an update makes of a document, as a change of its top-level fields.
+#![tactic(auto)]
+
+mod faults;
+mod kind;
+mod operator;
+mod update;
+
+pub use faults::{ChangeFault, UpdateFault};
+pub use operator::{Action, Operator, Side};
+pub use update::Update;
