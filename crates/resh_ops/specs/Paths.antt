@@ -6,6 +6,8 @@ use Rattle.resh_value.specs.Lookup.{field_of, with_field, without_field}
 use Rattle.resh_value.specs.declared.value.Value.{Value, out-Value}
 use Rattle.resh_value.specs.declared.value.Value.TheVariants.{Doc}
 use Rattle.resh_value.specs.declared.value.Value.TheOpen.{Value-F}
+use Rattle.resh_ops.specs.declared.path.Reached.{Reached as Answer}
+use Rattle.resh_ops.specs.declared.path.Reached.TheVariants.{Here, Missing, Scalar}
 
 abbrev pub Document : Type 0
 Document = List (List ℕ × Value)
@@ -18,6 +20,12 @@ pub data Reached : Type 0 where
   here : Value → Reached
   missing : Reached
   scalar : Reached
+
+-- the same of what the program's answer borrows
+abbrev pub reached : Answer → Reached
+reached (Here value) = here value.now
+reached Missing = missing
+reached Scalar = scalar
 
 abbrev pub found : Option Value → Reached
 found (Some value) = here value

@@ -4,6 +4,7 @@
 mod faults;
 mod kind;
 mod operator;
+mod path;
 mod update;
 
 pub use faults::{ChangeFault, UpdateFault};
