@@ -1,6 +1,7 @@
 //! Update operators: what an update makes of a document, as a change of its top-level fields.
 #![tactic(auto)]
 
+mod difference;
 mod faults;
 mod kind;
 mod operator;
