@@ -1,14 +1,14 @@
 -- The change from a document to another leads to it.
 use Rattle.std.proofs.Common.{◌≡◌, ℕ, Bool, true, false, cond, not, ◌||◌, ◌&&◌, List, [], ◌∷◌, ◌≤◌, length, drop, filter, Option, Some, None, is_none, refl, ap, sym, ◌∙◌, subst}
 use Rattle.std.proofs.Math.ListN.{drop_of_length-le}
-use Rattle.std.specs.declared.cmp.Ordering.TheVariants.{Less, Equal, Greater}
+use Rattle.std.specs.declared.cmp.Ordering.TheVariants.{Less, Equal}
 use Rattle.std.specs.Ordering.{is_eq}
 use Rattle.std.specs.List.{AllByRecursion, list_all}
 use Rattle.std.specs.List.Sorted.{IsStrictlySortedBy}
 use Rattle.std.specs.Map.{keys_of}
 use Rattle.std.proofs.lemmas.Map.Keys.{sorted_head, sorted_tail}
 use Rattle.resh_value.specs.Names.{name_cmp, HasRisingNames}
-use Rattle.resh_value.specs.Lookup.{field_of, with_field}
+use Rattle.resh_value.specs.Lookup.{field_of}
 use Rattle.resh_value.specs.OrderLaws.{same_value}
 use Rattle.resh_value.specs.Change.{changed, changed_value, with_fields, are_apart, is_among}
 use Rattle.resh_value.specs.declared.value.Value.{Value}

@@ -1,14 +1,12 @@
 -- A path of two or more names, by its first one.
-use Rattle.std.proofs.Common.{◌≡◌, ℕ, ◌+◌, ◌<◌, ◌≤◌, List, [], ◌∷◌, ◌++◌, length, get_or, drop, Option, Some, None, unwrap_or, append_assoc, refl, ap, sym, ◌∙◌, subst, arith}
+use Rattle.std.proofs.Common.{◌≡◌, ℕ, ◌+◌, ◌<◌, ◌≤◌, List, [], ◌∷◌, ◌++◌, length, get_or, drop, None, append_assoc, refl, ap, sym, ◌∙◌, subst, arith}
 use Rattle.std.proofs.lemmas.List.{drop_more}
 use Rattle.std.specs.declared.cmp.Ordering.TheVariants.{Less, Equal, Greater}
 use Rattle.std.specs.Ordering.{match_ordering}
 use Rattle.resh_value.specs.Names.{name_cmp}
 use Rattle.resh_value.specs.Lookup.{field_of, with_field}
-use Rattle.resh_value.specs.declared.value.Value.{Value}
-use Rattle.resh_value.specs.declared.value.Value.TheVariants.{Doc}
 use Rattle.resh_value.proofs.Names.{name_cmp-itself, by_order}
-use Rattle.resh_ops.specs.Paths.{Document, Path, reach, missing, within, write, erase, embedded, dotted}
+use Rattle.resh_ops.specs.Paths.{Document, Path, reach, missing, within, embedded, dotted}
 
 -- a put at fields that begin with f
 module _ {X : Type 0} (name : List ℕ) (f : List ℕ × X) (fs : List (List ℕ × X)) (v : X) where

@@ -1,6 +1,6 @@
 -- Paths into documents: a list of names, each but the last of an embedded document.
-use Rattle.std.specs.Prelude.{ℕ, Bool, ◌||◌, List, [], ◌∷◌, length, Option, Some, None, unwrap_or}
-use Rattle.std.specs.List.{list_any, starts_with, join_with_byte}
+use Rattle.std.specs.Prelude.{ℕ, Bool, true, false, ◌||◌, List, [], ◌∷◌, Option, Some, None, unwrap_or}
+use Rattle.std.specs.List.{starts_with, join_with_byte}
 use Rattle.resh_value.specs.Names.{same_name}
 use Rattle.resh_value.specs.Lookup.{field_of, with_field, without_field}
 use Rattle.resh_value.specs.declared.value.Value.{Value, out-Value}
@@ -26,6 +26,11 @@ abbrev pub reached : Answer → Reached
 reached (Here value) = here value.now
 reached Missing = missing
 reached Scalar = scalar
+
+abbrev pub is_scalar : Reached → Bool
+is_scalar (here value) = false
+is_scalar missing = false
+is_scalar scalar = true
 
 abbrev pub found : Option Value → Reached
 found (Some value) = here value

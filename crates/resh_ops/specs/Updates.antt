@@ -1,15 +1,19 @@
 -- What an update makes of a document: its operators one after another, or the first fault.
-use Rattle.std.specs.Prelude.{◌≡◌, ◌≢◌, ℕ, false, cond, nat_lt, List, [], ◌∷◌, ◌++◌, length, codes, Result, Ok, Err}
+use Rattle.std.specs.Prelude.{◌≡◌, ℕ, false, cond, nat_lt, List, [], ◌∷◌, length, codes, Result, Ok, Err}
 use Rattle.std.specs.List.{All}
 use Rattle.resh_value.specs.Names.{same_name}
 use Rattle.resh_value.specs.Outcome.{and_then}
 use Rattle.resh_value.specs.Text.{document_text}
 use Rattle.resh_value.specs.Depth.{document_levels}
 use Rattle.resh_value.specs.declared.value.Value.{Value}
-use Rattle.resh_ops.specs.Paths.{Document, Path, Reached, here, missing, scalar, reach, write, erase, dotted}
-use Rattle.resh_ops.specs.Operators.{Doing, keeps, writes, erases, moves, fails, does}
+use Rattle.resh_ops.specs.Paths.{Document, Path, Reached, is_scalar, reach, write, erase, dotted}
+use Rattle.resh_ops.specs.Operators.{does}
+use Rattle.resh_ops.specs.declared.doing.Doing.{Doing}
+use Rattle.resh_ops.specs.declared.doing.Doing.TheVariants.{Keeps, Writes, Erases, Moves, Fails}
+use Rattle.resh_ops.specs.declared.doing.Refusal.{Refusal}
+use Rattle.resh_ops.specs.declared.doing.Refusal.TheVariants as refused
 use Rattle.resh_ops.specs.declared.faults.ChangeFault.{ChangeFault}
-use Rattle.resh_ops.specs.declared.faults.ChangeFault.TheVariants.{ThroughScalar, TooLarge, TooDeep}
+use Rattle.resh_ops.specs.declared.faults.ChangeFault.TheVariants.{NotNumber, OutOfRange, NotArray, ThroughScalar, TooLarge, TooDeep}
 use Rattle.resh_ops.specs.declared.operator.Action.{Action}
 use Rattle.resh_ops.specs.declared.operator.Operator.{Operator}
 use Rattle.resh_ops.specs.declared.operator.Operator.TheVariants.{AddToSet, Inc, Max, Min, Mul, Pop, Push, Rename, Set, Unset}
@@ -17,18 +21,23 @@ use Rattle.resh_ops.specs.declared.operator.Operator.TheVariants.{AddToSet, Inc,
 abbrev pub Made : Type 0
 Made = Result Document ChangeFault
 
+-- a refusal, which names the path
+abbrev pub fault_of : Refusal → List ℕ → ChangeFault
+fault_of refused.NotNumber path = NotNumber path
+fault_of refused.OutOfRange path = OutOfRange path
+fault_of refused.NotArray path = NotArray path
+fault_of refused.ThroughScalar path = ThroughScalar path
+
 -- a value on its way to another path
 abbrev pub moved_to : Path → Value → Document → Reached → Made
-moved_to target value rest (here old) = Ok (write target value rest)
-moved_to target value rest missing = Ok (write target value rest)
-moved_to target value rest scalar = Err (ThroughScalar (dotted target))
+moved_to target value rest reached = cond (is_scalar reached) (Err (ThroughScalar (dotted target))) (Ok (write target value rest))
 
 abbrev pub done_at : Path → Document → Doing → Made
-done_at path document keeps = Ok document
-done_at path document (writes value) = Ok (write path value document)
-done_at path document erases = Ok (erase path document)
-done_at path document (moves target value) = moved_to target value (erase path document) (reach target document)
-done_at path document (fails fault) = Err (fault (dotted path))
+done_at path document Keeps = Ok document
+done_at path document (Writes value) = Ok (write path value document)
+done_at path document Erases = Ok (erase path document)
+done_at path document (Moves target value) = moved_to target value (erase path document) (reach target document)
+done_at path document (Fails refusal) = Err (fault_of refusal (dotted path))
 
 -- the document after one action
 abbrev pub acted : Action → Document → Made

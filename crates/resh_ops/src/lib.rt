@@ -1,7 +1,9 @@
 //! Update operators: what an update makes of a document, as a change of its top-level fields.
 #![tactic(auto)]
 
+mod change;
 mod difference;
+mod doing;
 mod faults;
 mod kind;
 mod operator;

@@ -1,4 +1,7 @@
-use resh_value::{Names, Value};
+ghost use Rattle.std.specs.Prelude.{◌≡◌, IfOk};
+
+use resh_value::{Copied, Names, NoMemory, Value};
+use std::alloc::Global;
 
 /// What an update does at one path.
 #[derive(Debug, Drop)]
@@ -38,4 +41,45 @@ pub enum Operator {
 pub enum Side {
     First,
     Last,
+}
+
+impl Action {
+    pub fn copy(&self, alloc: Global) -> Result<Action, NoMemory>
+        ensures { IfOk result (λ a. a ≡ self.now) }
+    {
+        let path = self.path.copy()?;
+        let operator = self.operator.copy(alloc)?;
+        Ok(Action { path, operator })
+    }
+}
+
+impl Copied for Action {
+    fn copied(&self, alloc: Global) -> Result<Action, NoMemory> {
+        self.copy(alloc)
+    }
+}
+
+impl Operator {
+    pub fn copy(&self, alloc: Global) -> Result<Operator, NoMemory>
+        ensures { IfOk result (λ o. o ≡ self.now) }
+    {
+        match self {
+            Operator::AddToSet(value) => Ok(Operator::AddToSet(value.copy(alloc)?)),
+            Operator::Inc(n) => Ok(Operator::Inc(*n)),
+            Operator::Max(value) => Ok(Operator::Max(value.copy(alloc)?)),
+            Operator::Min(value) => Ok(Operator::Min(value.copy(alloc)?)),
+            Operator::Mul(n) => Ok(Operator::Mul(*n)),
+            Operator::Pop(side) => Ok(Operator::Pop(*side)),
+            Operator::Push(value) => Ok(Operator::Push(value.copy(alloc)?)),
+            Operator::Rename(target) => Ok(Operator::Rename(target.copy()?)),
+            Operator::Set(value) => Ok(Operator::Set(value.copy(alloc)?)),
+            Operator::Unset => Ok(Operator::Unset),
+        }
+    }
+}
+
+impl Copied for Operator {
+    fn copied(&self, alloc: Global) -> Result<Operator, NoMemory> {
+        self.copy(alloc)
+    }
 }

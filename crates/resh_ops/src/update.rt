@@ -1,4 +1,8 @@
+ghost use Rattle.std.specs.Prelude.{◌≡◌, IfOk};
+
 use crate::operator::Action;
+use resh_value::{Copied, NoMemory};
+use std::alloc::Global;
 use std::marker::Model;
 
 /// An update: operators at paths, in the order in which they are taken, which is that of the operators' names and then
@@ -22,4 +26,36 @@ impl Model for Update {
     ghost view = { λ u. u.actions.items };
 
     ghost invariant = { λ u. IsUpdate u.actions.items };
+}
+
+impl Update {
+    pub(crate) fn alloc(&self) -> Global {
+        *self.actions.allocator()
+    }
+
+    /// The operators with their paths, in the order in which they are taken.
+    pub fn actions(&self) -> &[Action]
+        ensures { result.now ≡ self.now }
+    {
+        self.actions.as_slice()
+    }
+
+    /// An update with the same operators, on its own allocator.
+    pub fn copy(&self) -> Result<Update, NoMemory>
+        ensures { IfOk result (λ u. u ≡ self.now) }
+    {
+        let alloc = self.alloc();
+        let actions = self.actions.as_slice();
+        let mut copies = Vec::with_capacity(alloc, actions.len())?;
+        for action in actions {
+            copies.push(action.copy(alloc)?)?;
+        }
+        Ok(Update { actions: copies })
+    }
+}
+
+impl Copied for Update {
+    fn copied(&self, _alloc: Global) -> Result<Update, NoMemory> {
+        self.copy()
+    }
 }

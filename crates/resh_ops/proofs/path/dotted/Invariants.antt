@@ -1,4 +1,4 @@
-use Rattle.std.proofs.Common.{◌≡◌, ◌∷◌, ◌++◌, drop, string_bytes}
+use Rattle.std.proofs.Common.{◌≡◌, ◌∷◌, drop, string_bytes}
 use Rattle.resh_ops.specs.Paths.{dotted}
 use Rattle.resh_ops.proofs.path.dotted.Given as goal
 
