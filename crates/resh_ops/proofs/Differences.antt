@@ -17,6 +17,7 @@ use Rattle.resh_value.proofs.FieldLaws.{field_of-below, same_fields}
 use Rattle.resh_value.proofs.ChangeLaws.{field_of-with_fields, HasRisingNames-with_fields, field_of-changed, HasRisingNames-changed}
 use Rattle.resh_ops.specs.Paths.{Document}
 use Rattle.resh_ops.specs.Operators.{is_same}
+use Rattle.resh_ops.specs.Laws.{EmptyChangeKeeps}
 use Rattle.resh_ops.specs.Changes.{assigned, is_other, unset, LeadsTo}
 
 abbrev Field : Type 0
@@ -152,3 +153,6 @@ module _ (before after fields assign : Document) (i : ℕ) (s : HasRisingNames a
   puts_assigned e =
       ap (λ r. with_fields assign (assigned before r)) (sym (drop_of_length-le fields l)) ∙ e ∙ ap (λ r. with_fields [] (assigned before r)) f
       ∙ puts_all (assigned before after) (HasRisingNames-filter (newer before) after s)
+
+pub empty_keeps : EmptyChangeKeeps
+empty_keeps before after s t a u = sym (leads_on before after s t).made ∙ ap (λ l. changed l (unset before after) before) a ∙ ap (λ names. changed [] names before) u

@@ -1,2 +1,5 @@
+pub mod ActionLaws
 mod Differences
+mod NumberLaws
+pub mod PathLaws
 mod PathSteps

@@ -2,4 +2,5 @@ pub mod Paths
 pub mod Operators
 pub mod Updates
 pub mod Changes
+pub mod Laws
 pub mod Reading

@@ -6,10 +6,12 @@ mod difference;
 mod doing;
 mod faults;
 mod kind;
+mod laws;
 mod operator;
 mod path;
 mod update;
 
 pub use faults::{ChangeFault, UpdateFault};
+pub use laws::{action_laws, empty_change_law, id_laws, number_laws};
 pub use operator::{Action, Operator, Side};
 pub use update::Update;
