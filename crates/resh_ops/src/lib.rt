@@ -2,6 +2,8 @@
 #![tactic(auto)]
 
 mod change;
+#[cfg(test)]
+mod change_tests;
 mod difference;
 mod doing;
 mod faults;

@@ -1,7 +1,8 @@
 ghost use Rattle.std.specs.Prelude.{◌≡◌, IfOk};
+ghost use Rattle.resh_ops.specs.Updates.{IsUpdate};
 
 use crate::operator::Action;
-use resh_value::{Copied, NoMemory};
+use resh_value::{Copied, NoMemory, Sequence};
 use std::alloc::Global;
 use std::marker::Model;
 
@@ -29,6 +30,15 @@ impl Model for Update {
 }
 
 impl Update {
+    pub(crate) fn of(actions: Sequence<Action>) -> Update
+        requires { IsUpdate actions }
+        ensures { result ≡ actions }
+    {
+        Update {
+            actions: actions.into_vec(),
+        }
+    }
+
     pub(crate) fn alloc(&self) -> Global {
         *self.actions.allocator()
     }
