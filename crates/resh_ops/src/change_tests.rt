@@ -83,22 +83,45 @@ fn example(alloc: Global, text: &str) -> Result<Document, Fail> {
 }
 
 fn operator_of(alloc: Global, name: &str, operand: &Json) -> Result<Operator, Fail> {
-    let value = value_of(alloc, operand)?;
-    match (name.as_bytes(), value) {
-        (b"$addToSet", value) => Ok(Operator::AddToSet(value)),
-        (b"$inc", Value::Int(n)) => Ok(Operator::Inc(n)),
-        (b"$max", value) => Ok(Operator::Max(value)),
-        (b"$min", value) => Ok(Operator::Min(value)),
-        (b"$mul", Value::Int(n)) => Ok(Operator::Mul(n)),
-        (b"$pop", Value::Int(1)) => Ok(Operator::Pop(Side::Last)),
-        (b"$pop", _) => Ok(Operator::Pop(Side::First)),
-        (b"$push", value) => Ok(Operator::Push(value)),
-        (b"$rename", Value::Text(target)) => Ok(Operator::Rename(names_of(
-            alloc,
-            target.as_str(),
-        )?)),
-        (b"$set", value) => Ok(Operator::Set(value)),
-        _ => Ok(Operator::Unset),
+    match value_of(alloc, operand)? {
+        Value::Int(n) => Ok(number_operator(name, n)),
+        Value::Text(text) => text_operator(alloc, name, text),
+        value => Ok(value_operator(name, value)),
+    }
+}
+
+fn number_operator(name: &str, n: i64) -> Operator {
+    if name == "$inc" {
+        Operator::Inc(n)
+    } else if name == "$mul" {
+        Operator::Mul(n)
+    } else if name == "$pop" {
+        Operator::Pop(if n == 1 { Side::Last } else { Side::First })
+    } else if name == "$unset" {
+        Operator::Unset
+    } else {
+        value_operator(name, Value::Int(n))
+    }
+}
+
+fn text_operator(alloc: Global, name: &str, text: Words) -> Result<Operator, Fail> {
+    if name == "$rename" {
+        return Ok(Operator::Rename(names_of(alloc, text.as_str())?));
+    }
+    Ok(value_operator(name, Value::Text(text)))
+}
+
+fn value_operator(name: &str, value: Value) -> Operator {
+    if name == "$addToSet" {
+        Operator::AddToSet(value)
+    } else if name == "$max" {
+        Operator::Max(value)
+    } else if name == "$min" {
+        Operator::Min(value)
+    } else if name == "$push" {
+        Operator::Push(value)
+    } else {
+        Operator::Set(value)
     }
 }
 
