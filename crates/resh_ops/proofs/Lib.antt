@@ -3,3 +3,5 @@ mod Differences
 mod NumberLaws
 pub mod PathLaws
 mod PathSteps
+mod ReadLemmas
+mod ReadPaths

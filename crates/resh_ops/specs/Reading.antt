@@ -47,9 +47,13 @@ abbrev pub begins_with_id : Path → Bool
 begins_with_id [] = false
 begins_with_id (name ∷ rest) = same_name name (codes "_id")
 
--- the path of a text, where `named` is the path that a bad one is reported with
+-- the path with these names, where `named` is the path that a bad one is reported with
+abbrev pub path_with : List ℕ → Path → Read Path
+path_with named names = cond (list_all is_step names) (cond (begins_with_id names) (Err IdPath) (Ok names)) (Err (BadOperand named))
+
+-- the path of a text
 abbrev pub path_of : List ℕ → List ℕ → Read Path
-path_of named text = cond (list_all is_step (names_in text)) (cond (begins_with_id (names_in text)) (Err IdPath) (Ok (names_in text))) (Err (BadOperand named))
+path_of named text = path_with named (names_in text)
 
 -- the operator of a name
 abbrev pub kind_of : List ℕ → Option Kind

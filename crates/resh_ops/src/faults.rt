@@ -1,4 +1,7 @@
+ghost use Rattle.std.specs.Prelude.{◌≡◌, IfOk};
+
 use resh_value::{NoMemory, ValueFault, Words};
+use std::alloc::{AllocError, AllocFailed};
 
 /// Why a JSON value is no update. A path is that of a field in the update, its names joined by dots.
 #[derive(Debug, Drop)]
@@ -24,6 +27,28 @@ impl From<NoMemory> for UpdateFault {
     ghost from_gives = { λ e f. f ≡ NoMemory };
 
     fn from(_: NoMemory) -> UpdateFault {
+        UpdateFault::NoMemory
+    }
+}
+
+impl From<AllocError> for UpdateFault {
+    ghost use Rattle.std.specs.Prelude.{◌≡◌};
+    ghost use Rattle.resh_ops.specs.declared.faults.UpdateFault.TheVariants.{NoMemory};
+
+    ghost from_gives = { λ e f. f ≡ NoMemory };
+
+    fn from(_: AllocError) -> UpdateFault {
+        UpdateFault::NoMemory
+    }
+}
+
+impl<T: Drop> From<AllocFailed<T>> for UpdateFault {
+    ghost use Rattle.std.specs.Prelude.{◌≡◌};
+    ghost use Rattle.resh_ops.specs.declared.faults.UpdateFault.TheVariants.{NoMemory};
+
+    ghost from_gives = { λ e f. f ≡ NoMemory };
+
+    fn from(_: AllocFailed<T>) -> UpdateFault {
         UpdateFault::NoMemory
     }
 }
@@ -54,5 +79,23 @@ impl From<NoMemory> for ChangeFault {
 
     fn from(_: NoMemory) -> ChangeFault {
         ChangeFault::NoMemory
+    }
+}
+
+impl ChangeFault {
+    pub fn copy(&self) -> Result<ChangeFault, NoMemory>
+        ensures { IfOk result (λ fault. fault ≡ self.now) }
+    {
+        match self {
+            ChangeFault::NotNumber { path } => Ok(ChangeFault::NotNumber { path: path.copy()? }),
+            ChangeFault::OutOfRange { path } => Ok(ChangeFault::OutOfRange { path: path.copy()? }),
+            ChangeFault::NotArray { path } => Ok(ChangeFault::NotArray { path: path.copy()? }),
+            ChangeFault::ThroughScalar { path } => Ok(ChangeFault::ThroughScalar {
+                path: path.copy()?,
+            }),
+            ChangeFault::TooLarge => Ok(ChangeFault::TooLarge),
+            ChangeFault::TooDeep => Ok(ChangeFault::TooDeep),
+            ChangeFault::NoMemory => Ok(ChangeFault::NoMemory),
+        }
     }
 }

@@ -4,13 +4,20 @@
 mod change;
 #[cfg(test)]
 mod change_tests;
+mod conflicts;
 mod difference;
 mod doing;
 mod faults;
 mod kind;
 mod laws;
+mod operands;
 mod operator;
 mod path;
+mod path_text;
+mod read;
+mod read_faults;
+#[cfg(test)]
+mod read_tests;
 mod update;
 
 pub use faults::{ChangeFault, UpdateFault};
