@@ -1,8 +1,8 @@
 -- What actions leave and what they make.
-use Rattle.std.proofs.Common.{◌≡◌, ℕ, ℤ, pos, Bool, true, false, cond, ◌||◌, List, [], ◌∷◌, ◌++◌, length, nat_lt, codes, Option, Some, None, Result, Ok, Err, refl, ap, sym, ◌∙◌, subst}
+use Rattle.std.proofs.Common.{◌≡◌, ℕ, ℤ, pos, Bool, true, false, cond, ◌||◌, List, [], ◌∷◌, ◌++◌, length, nat_lt, codes, Ok, Err, refl, ap, sym, ◌∙◌}
 use Rattle.std.specs.Prelude.{◌+ℤ◌, ◌*ℤ◌}
 use Rattle.std.specs.Ordering.{is_eq, is_lt, is_gt}
-use Rattle.std.specs.List.{All, AllByRecursion, list_any}
+use Rattle.std.specs.List.{AllByRecursion, list_any}
 use Rattle.std.specs.Cmp.Lexicographic.{bytes_decides}
 use Rattle.std.proofs.lemmas.List.Elements.{recursion_from_All}
 use Rattle.resh_value.specs.Names.{name_cmp, same_name}
@@ -17,8 +17,8 @@ use Rattle.resh_value.specs.declared.value.Value.TheOpen.{Value-F}
 use Rattle.resh_value.proofs.Names.{apart_from_unlike}
 use Rattle.resh_ops.specs.Paths.{Document, Path, Reached, here, missing, scalar, is_scalar, reach, write, erase, dotted, is_related}
 use Rattle.resh_ops.specs.Operators.{does, is_same, where_it_leads, unsets, on_array, on_number, is_i64, writes_number}
-use Rattle.resh_ops.specs.Updates.{Made, done_at, acted, acted_all, within_limits, updated, other_path, paths_of, IsPath, path as named, HasPaths, IsUpdate}
-use Rattle.resh_ops.specs.Laws.{SetReadsBack, IsApart, KeepsUnrelated, KeepsId, ActionsKeepId}
+use Rattle.resh_ops.specs.Updates.{Made, done_at, acted, acted_all, within_limits, updated, other_path, paths_of, IsPath, path as named, HasPaths}
+use Rattle.resh_ops.specs.Laws.{SetReadsBack, KeepsUnrelated, KeepsId, ActionsKeepId}
 use Rattle.resh_ops.specs.declared.faults.ChangeFault.{ChangeFault}
 use Rattle.resh_ops.specs.declared.faults.ChangeFault.TheVariants.{ThroughScalar, TooLarge, TooDeep}
 use Rattle.resh_ops.specs.declared.doing.Doing.{Doing}
@@ -27,7 +27,7 @@ use Rattle.resh_ops.specs.declared.doing.Refusal.TheVariants.{OutOfRange}
 use Rattle.resh_ops.specs.declared.operator.Action.{Action}
 use Rattle.resh_ops.specs.declared.operator.Operator.{Operator}
 use Rattle.resh_ops.specs.declared.operator.Operator.TheVariants.{AddToSet, Inc, Max, Min, Mul, Pop, Push, Rename, Set, Unset}
-use Rattle.resh_ops.proofs.PathLaws.{write-other, erase-other, reach-write_apart, reach-erase_apart, reach-write_itself}
+use Rattle.resh_ops.proofs.PathLaws.{write-other, erase-other, along-clear, along-erased, reach-write_along, reach-write_apart, reach-erase_apart, reach-write_itself}
 
 -- a value that moves goes to such a path
 abbrev Goes : (Path → Type 0) → Doing → Type 0
@@ -98,39 +98,35 @@ made : (d after : Document) → ◌≡◌ {A = Made} (Ok d) (Ok after) → d ≡
 made d after e = cc
 
 module _ (other path : Path) (d after : Document) (r : is_related other path ≡ false) (s : is_scalar (reach path d) ≡ false) where
-  moved-apart : (target : Path) (v : Value) (f : ChangeFault) (b : Bool) → is_related other target ≡ false → is_related target path ≡ false → is_scalar (reach target d) ≡ b
+  moved-apart : (target : Path) (v : Value) (f : ChangeFault) (b : Bool) → is_related other target ≡ false → is_scalar (reach target d) ≡ b
       → cond b (Err f) (Ok (write target v (erase path d))) ≡ Ok after → reach other after ≡ reach other d
-  moved-apart target v f true o t h e = cc
-  moved-apart target v f false o t h e =
+  moved-apart target v f true o h e = cc
+  moved-apart target v f false o h e =
       ap (reach other) (sym (made (write target v (erase path d)) after e))
-      ∙ reach-write_apart other target v (erase path d) o (ap is_scalar (reach-erase_apart target path d t s) ∙ h)
+      ∙ reach-write_along other target v (erase path d) o (along-erased other target path d r (along-clear other target d h))
       ∙ reach-erase_apart other path d r s
 
-  done-apart : (doing : Doing) → Goes (λ target. (is_related other target ≡ false) × (is_related target path ≡ false)) doing → done_at path d doing ≡ Ok after → reach other after ≡ reach other d
+  done-apart : (doing : Doing) → Goes (λ target. is_related other target ≡ false) doing → done_at path d doing ≡ Ok after → reach other after ≡ reach other d
   done-apart Keeps g e = ap (reach other) (sym (made d after e))
   done-apart (Writes v) g e = ap (reach other) (sym (made (write path v d) after e)) ∙ reach-write_apart other path v d r s
   done-apart Erases g e = ap (reach other) (sym (made (erase path d) after e)) ∙ reach-erase_apart other path d r s
-  done-apart (Moves target v) g e = moved-apart target v (ThroughScalar (dotted target)) (is_scalar (reach target d)) g.0 g.1 refl e
+  done-apart (Moves target v) g e = moved-apart target v (ThroughScalar (dotted target)) (is_scalar (reach target d)) g refl e
   done-apart (Fails refusal) g e = cc
 
--- each of an action's other paths, from the tests of them all
-each_apart : (other path : Path) (paths : List Path) → list_any (is_related other) paths ≡ false → list_any (λ p. is_related p path) paths ≡ false
-    → AllByRecursion (λ target. (is_related other target ≡ false) × (is_related target path ≡ false)) paths
-each_apart other path [] a b = tt
-each_apart other path (p ∷ ps) a b =
-    let x = either (is_related other p) (list_any (is_related other) ps) a in
-    let y = either (is_related p path) (list_any (λ p. is_related p path) ps) b in
-    ((x.0, y.0), each_apart other path ps x.1 y.1)
+-- each of some paths, from the test of them all
+each_apart : (other : Path) (paths : List Path) → list_any (is_related other) paths ≡ false → AllByRecursion (λ target. is_related other target ≡ false) paths
+each_apart other [] a = tt
+each_apart other (p ∷ ps) a = let x = either (is_related other p) (list_any (is_related other) ps) a in (x.0, each_apart other ps x.1)
 
-by_reached : (action : Action) (other : Path) (d after : Document) (r : Reached) → reach action.path d ≡ r → IsApart action → done_at action.path d (does action.operator r) ≡ Ok after
+by_reached : (action : Action) (other : Path) (d after : Document) (r : Reached) → reach action.path d ≡ r → done_at action.path d (does action.operator r) ≡ Ok after
     → list_any (is_related other) (paths_of action) ≡ false → reach other after ≡ reach other d
-by_reached action other d after scalar h a e u = ap (reach other) (stays-scalar action.operator action.path d after e)
-by_reached action other d after r h a e u =
+by_reached action other d after scalar h e u = ap (reach other) (stays-scalar action.operator action.path d after e)
+by_reached action other d after r h e u =
     let x = either (is_related other action.path) (list_any (is_related other) (other_path action.operator)) u in
-    done-apart other action.path d after x.0 (ap is_scalar h) (does action.operator r) (goes _ action.operator r (each_apart other action.path (other_path action.operator) x.1 a)) e
+    done-apart other action.path d after x.0 (ap is_scalar h) (does action.operator r) (goes _ action.operator r (each_apart other (other_path action.operator) x.1)) e
 
 pub keeps_unrelated : KeepsUnrelated
-keeps_unrelated action d after other a e u = by_reached action other d after (reach action.path d) refl a e u
+keeps_unrelated action d after other e u = by_reached action other d after (reach action.path d) refl e u
 
 -- ---- a value that is set
 set-back : (n : List ℕ) (rest : Path) (v : Value) (d after : Document) (r : Reached) → done_at (n ∷ rest) d (does (Set v) r) ≡ Ok after → reach (n ∷ rest) after ≡ here v

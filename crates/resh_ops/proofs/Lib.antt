@@ -5,3 +5,4 @@ pub mod PathLaws
 mod PathSteps
 mod ReadLemmas
 mod ReadPaths
+mod Neighbours

@@ -1,13 +1,10 @@
 -- What operators on numbers write.
-use Rattle.std.proofs.Common.{◌≡◌, ℕ, ℤ, Bool, true, false, cond, refl, ap, sym, ◌∙◌, arith}
+use Rattle.std.proofs.Common.{◌≡◌, ℤ, Bool, true, false, cond, refl, ap, ◌∙◌, arith}
 use Rattle.std.proofs.lemmas.Int.{ints}
 use Rattle.std.specs.Prelude.{◌+ℤ◌, ◌*ℤ◌}
-use Rattle.resh_value.specs.declared.value.Value.{Value, out-Value}
 use Rattle.resh_value.specs.declared.value.Value.TheVariants.{Int, outs-Int}
-use Rattle.resh_ops.specs.Operators.{does, is_i64, on_number, writes_number}
-use Rattle.resh_ops.specs.Paths.{here}
+use Rattle.resh_ops.specs.Operators.{is_i64, on_number, writes_number}
 use Rattle.resh_ops.specs.Laws.{HasWidth, StaysInWidth}
-use Rattle.resh_ops.specs.declared.doing.Doing.{Doing}
 use Rattle.resh_ops.specs.declared.doing.Doing.TheVariants.{Writes, Fails}
 use Rattle.resh_ops.specs.declared.doing.Refusal.TheVariants.{OutOfRange}
 use Rattle.resh_ops.specs.declared.operator.Operator.TheVariants.{Inc, Mul}

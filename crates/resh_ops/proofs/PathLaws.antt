@@ -1,17 +1,16 @@
 -- What paths reach after a write and after an erasure.
-use Rattle.std.proofs.Common.{◌≡◌, ◌≢◌, ℕ, Bool, true, false, ◌&&◌, ◌||◌, List, [], ◌∷◌, ◌++◌, length, take, drop, Option, Some, None, unwrap_or, refl, ap, sym, ◌∙◌, subst}
+use Rattle.std.proofs.Common.{◌≡◌, ℕ, true, false, ◌&&◌, ◌||◌, List, [], ◌∷◌, ◌++◌, length, take, drop, Option, Some, None, unwrap_or, refl, ap, sym, ◌∙◌, subst}
 use Rattle.std.proofs.lemmas.List.{take-append-drop}
 use Rattle.std.specs.Ordering.{is_eq}
 use Rattle.std.specs.List.{starts_with}
 use Rattle.std.specs.Cmp.Lexicographic.{bytes_decides, pointwise_decides}
-use Rattle.std.specs.declared.cmp.Ordering.TheVariants.{Less, Equal, Greater}
 use Rattle.resh_value.specs.Names.{name_cmp, same_name}
-use Rattle.resh_value.specs.Lookup.{field_of, with_field, without_field}
+use Rattle.resh_value.specs.Lookup.{field_of, with_field}
 use Rattle.resh_value.specs.declared.value.Value.{Value, out-Value}
 use Rattle.resh_value.specs.declared.value.Value.TheVariants.{Doc, outs-Doc}
 use Rattle.resh_value.proofs.Names.{by_order, same_from_equal}
-use Rattle.resh_value.proofs.FieldLaws.{field_of-with_field_same, field_of-with_field_other, field_of-without_field_same, field_of-without_field_other}
-use Rattle.resh_ops.specs.Paths.{Document, Path, Reached, here, missing, scalar, is_scalar, found, fields_in, embedded, within, reach, write, erase, is_related}
+use Rattle.resh_value.proofs.FieldLaws.{field_of-with_field_same, field_of-with_field_other, field_of-without_field_other}
+use Rattle.resh_ops.specs.Paths.{Document, Path, here, scalar, is_scalar, found, fields_in, embedded, within, reach, write, erase, is_related}
 
 same_name-itself : (n : List ℕ) → same_name n n ≡ true
 same_name-itself n = (bytes_decides n n).1 refl
@@ -51,19 +50,39 @@ goes_in p None h = cc
 into : (n x : List ℕ) (q : Path) (d : Document) → embedded (field_of d n) ≡ Some (unwrap_or (embedded (field_of d n)) []) → reach (x ∷ q) (unwrap_or (embedded (field_of d n)) []) ≡ reach (n ∷ x ∷ q) d
 into n x q d h = ap (λ o. within (λ inner. reach (x ∷ q) inner) o) (sym h)
 
+-- where two paths go on together, they go on in documents
+abbrev pub Along : Path → Path → Document → Type 0
+Along [] p d = Unit {0}
+Along (n ∷ q) [] d = Unit {0}
+Along (n ∷ []) (m ∷ p) d = Unit {0}
+Along (n ∷ x ∷ q) (m ∷ []) d = Unit {0}
+Along (n ∷ x ∷ q) (m ∷ y ∷ p) d =
+    n ≡ m → (embedded (field_of d m) ≡ Some (unwrap_or (embedded (field_of d m)) [])) × Along (x ∷ q) (y ∷ p) (unwrap_or (embedded (field_of d m)) [])
+
+-- the same of the paths that are left, from what stands under the common name
+abbrev Inside : Path → Path → Option Value → Type 0
+Inside q p o = (embedded o ≡ Some (unwrap_or (embedded o) [])) × Along q p (unwrap_or (embedded o) [])
+
+-- a path that doesn't lead through a scalar goes on in documents
+pub along-clear : (q p : Path) (d : Document) → is_scalar (reach p d) ≡ false → Along q p d
+along-clear [] p d s = tt
+along-clear (n ∷ q) [] d s = tt
+along-clear (n ∷ []) (m ∷ p) d s = tt
+along-clear (n ∷ x ∷ q) (m ∷ []) d s = tt
+along-clear (n ∷ x ∷ q) (m ∷ y ∷ p) d s =
+    λ e. (goes_on (y ∷ p) (embedded (field_of d m)) s, along-clear (x ∷ q) (y ∷ p) (unwrap_or (embedded (field_of d m)) []) (goes_in (y ∷ p) (embedded (field_of d m)) s))
+
 -- what is done below a first name leaves what paths with that name reach, where it does so below
 below : (n : List ℕ) (q p : Path) (d : Document) (act : Path → Document → Document)
     → ((x : List ℕ) (r : Path) → p ≡ x ∷ r → act (n ∷ p) d ≡ with_field d n (Doc (act p (unwrap_or (embedded (field_of d n)) []))))
-    → ((e : Document) → is_related q p ≡ false → is_scalar (reach p e) ≡ false → reach q (act p e) ≡ reach q e)
-    → is_related (n ∷ q) (n ∷ p) ≡ false → is_scalar (reach (n ∷ p) d) ≡ false → reach (n ∷ q) (act (n ∷ p) d) ≡ reach (n ∷ q) d
-below n [] [] d act step inner r s = let e = sym (related-rest n [] []) ∙ r in cc
-below n [] (y ∷ p) d act step inner r s = let e = sym (related-rest n [] (y ∷ p)) ∙ r in cc
-below n (x ∷ q) [] d act step inner r s = let e = sym (related-rest n (x ∷ q) []) ∙ r in cc
-below n (x ∷ q) (y ∷ p) d act step inner r s =
+    → ((e : Document) → is_related q p ≡ false → Along q p e → reach q (act p e) ≡ reach q e)
+    → is_related (n ∷ q) (n ∷ p) ≡ false → Along (n ∷ q) (n ∷ p) d → reach (n ∷ q) (act (n ∷ p) d) ≡ reach (n ∷ q) d
+below n [] [] d act step inner r a = let e = sym (related-rest n [] []) ∙ r in cc
+below n [] (y ∷ p) d act step inner r a = let e = sym (related-rest n [] (y ∷ p)) ∙ r in cc
+below n (x ∷ q) [] d act step inner r a = let e = sym (related-rest n (x ∷ q) []) ∙ r in cc
+below n (x ∷ q) (y ∷ p) d act step inner r a =
     let i = unwrap_or (embedded (field_of d n)) [] in
-    ap (reach (n ∷ x ∷ q)) (step y p refl) ∙ reach-through n x q d (act (y ∷ p) i)
-    ∙ inner i (sym (related-rest n (x ∷ q) (y ∷ p)) ∙ r) (goes_in (y ∷ p) (embedded (field_of d n)) s)
-    ∙ into n x q d (goes_on (y ∷ p) (embedded (field_of d n)) s)
+    ap (reach (n ∷ x ∷ q)) (step y p refl) ∙ reach-through n x q d (act (y ∷ p) i) ∙ inner i (sym (related-rest n (x ∷ q) (y ∷ p)) ∙ r) (a refl).1 ∙ into n x q d (a refl).0
 
 -- by whether two first names are one
 by_name : {P : Type 0} (n m : List ℕ) → (n ≡ m → P) → (is_eq (name_cmp n m) ≡ false → P) → P
@@ -78,24 +97,54 @@ erase_step n d [] x r h = cc
 erase_step n d (y ∷ p) x r h = refl
 
 -- a write leaves what a path reaches that isn't related to its own
-pub reach-write_apart : (q p : Path) (v : Value) (d : Document) → is_related q p ≡ false → is_scalar (reach p d) ≡ false → reach q (write p v d) ≡ reach q d
-reach-write_apart [] p v d r s = refl
-reach-write_apart (n ∷ q) [] v d r s = refl
-reach-write_apart (n ∷ q) (m ∷ p) v d r s =
+pub reach-write_along : (q p : Path) (v : Value) (d : Document) → is_related q p ≡ false → Along q p d → reach q (write p v d) ≡ reach q d
+reach-write_along [] p v d r a = refl
+reach-write_along (n ∷ q) [] v d r a = refl
+reach-write_along (n ∷ q) (m ∷ p) v d r a =
     by_name n m
-    (λ h. subst (λ (k : List ℕ). is_related (n ∷ q) (k ∷ p) ≡ false → is_scalar (reach (k ∷ p) d) ≡ false → reach (n ∷ q) (write (k ∷ p) v d) ≡ reach (n ∷ q) d) h
-    (below n q p d (λ path document. write path v document) (write_step n v d p) (λ e. reach-write_apart q p v e)) r s)
+    (λ h. subst (λ (k : List ℕ). is_related (n ∷ q) (k ∷ p) ≡ false → Along (n ∷ q) (k ∷ p) d → reach (n ∷ q) (write (k ∷ p) v d) ≡ reach (n ∷ q) d) h
+    (below n q p d (λ path document. write path v document) (write_step n v d p) (λ e. reach-write_along q p v e)) r a)
     (λ h. reach-by_field n q d (write (m ∷ p) v d) (write-other n m p v d h))
 
+pub reach-write_apart : (q p : Path) (v : Value) (d : Document) → is_related q p ≡ false → is_scalar (reach p d) ≡ false → reach q (write p v d) ≡ reach q d
+reach-write_apart q p v d r s = reach-write_along q p v d r (along-clear q p d s)
+
 -- and so does an erasure
-pub reach-erase_apart : (q p : Path) (d : Document) → is_related q p ≡ false → is_scalar (reach p d) ≡ false → reach q (erase p d) ≡ reach q d
-reach-erase_apart [] p d r s = refl
-reach-erase_apart (n ∷ q) [] d r s = refl
-reach-erase_apart (n ∷ q) (m ∷ p) d r s =
+pub reach-erase_along : (q p : Path) (d : Document) → is_related q p ≡ false → Along q p d → reach q (erase p d) ≡ reach q d
+reach-erase_along [] p d r a = refl
+reach-erase_along (n ∷ q) [] d r a = refl
+reach-erase_along (n ∷ q) (m ∷ p) d r a =
     by_name n m
-    (λ h. subst (λ (k : List ℕ). is_related (n ∷ q) (k ∷ p) ≡ false → is_scalar (reach (k ∷ p) d) ≡ false → reach (n ∷ q) (erase (k ∷ p) d) ≡ reach (n ∷ q) d) h
-    (below n q p d erase (erase_step n d p) (λ e. reach-erase_apart q p e)) r s)
+    (λ h. subst (λ (k : List ℕ). is_related (n ∷ q) (k ∷ p) ≡ false → Along (n ∷ q) (k ∷ p) d → reach (n ∷ q) (erase (k ∷ p) d) ≡ reach (n ∷ q) d) h
+    (below n q p d erase (erase_step n d p) (λ e. reach-erase_along q p e)) r a)
     (λ h. reach-by_field n q d (erase (m ∷ p) d) (erase-other n m p d h))
+
+pub reach-erase_apart : (q p : Path) (d : Document) → is_related q p ≡ false → is_scalar (reach p d) ≡ false → reach q (erase p d) ≡ reach q d
+reach-erase_apart q p d r s = reach-erase_along q p d r (along-clear q p d s)
+
+-- an erasure at one first name
+inside-erased : (n x : List ℕ) (q t p : Path) (d : Document)
+    → ((e : Document) → is_related (x ∷ q) p ≡ false → Along (x ∷ q) t e → Along (x ∷ q) t (erase p e))
+    → is_related (n ∷ x ∷ q) (n ∷ p) ≡ false → Inside (x ∷ q) t (field_of d n) → Inside (x ∷ q) t (field_of (erase (n ∷ p) d) n)
+inside-erased n x q t [] d inner r i = let e = sym (related-rest n (x ∷ q) []) ∙ r in cc
+inside-erased n x q t (y ∷ p) d inner r i =
+    let e = erase (y ∷ p) (unwrap_or (embedded (field_of d n)) []) in
+    let is : embedded (field_of (with_field d n (Doc e)) n) ≡ Some e = ap embedded (field_of-with_field_same d n (Doc e)) ∙ ap fields_in (outs-Doc e) in
+    subst (λ (o : Option Document). (o ≡ Some (unwrap_or o [])) × Along (x ∷ q) t (unwrap_or o [])) (sym is)
+    (refl, inner (unwrap_or (embedded (field_of d n)) []) (sym (related-rest n (x ∷ q) (y ∷ p)) ∙ r) i.1)
+
+-- an erasure leaves the documents on the way of a path that isn't related to its own
+pub along-erased : (q t p : Path) (d : Document) → is_related q p ≡ false → Along q t d → Along q t (erase p d)
+along-erased [] t p d r a = tt
+along-erased (n ∷ q) [] p d r a = tt
+along-erased (n ∷ []) (m ∷ t) p d r a = tt
+along-erased (n ∷ x ∷ q) (m ∷ []) p d r a = tt
+along-erased (n ∷ x ∷ q) (m ∷ y ∷ t) [] d r a = a
+along-erased (n ∷ x ∷ q) (m ∷ y ∷ t) (k ∷ p) d r a =
+    λ e. by_name m k
+    (λ h. subst (λ (k : List ℕ). is_related (n ∷ x ∷ q) (k ∷ p) ≡ false → Inside (x ∷ q) (y ∷ t) (field_of (erase (k ∷ p) d) m)) h
+    (λ u. inside-erased m x q (y ∷ t) p d (λ i. along-erased (x ∷ q) (y ∷ t) p i) (subst (λ (l : List ℕ). is_related (l ∷ x ∷ q) (m ∷ p) ≡ false) e u) (a e)) r)
+    (λ h. subst (Inside (x ∷ q) (y ∷ t)) (sym (erase-other m k p d h)) (a e))
 
 -- a value that is written stands at its path
 pub reach-write_itself : (n : List ℕ) (rest : Path) (v : Value) (d : Document) → reach (n ∷ rest) (write (n ∷ rest) v d) ≡ here v

@@ -1,5 +1,5 @@
 -- What holds of every update.
-use Rattle.std.specs.Prelude.{◌≡◌, ◌≢◌, ℕ, ◌^◌, ℤ, pos, neg_ℤ, ◌≤ℤ◌, ◌<ℤ◌, false, List, [], ◌∷◌, codes, Ok}
+use Rattle.std.specs.Prelude.{◌≡◌, ℕ, ◌^◌, ℤ, pos, neg_ℤ, ◌≤ℤ◌, ◌<ℤ◌, false, List, [], ◌∷◌, codes, Ok}
 use Rattle.std.specs.List.{list_any}
 use Rattle.resh_value.specs.Names.{HasRisingNames}
 use Rattle.resh_value.specs.Lookup.{field_of}
@@ -7,7 +7,7 @@ use Rattle.resh_value.specs.declared.value.Value.{Value}
 use Rattle.resh_value.specs.declared.value.Value.TheVariants.{Int}
 use Rattle.resh_ops.specs.Paths.{Document, Path, here, reach, is_related}
 use Rattle.resh_ops.specs.Operators.{does}
-use Rattle.resh_ops.specs.Updates.{acted, acted_all, updated, paths_of, other_path, IsUpdate}
+use Rattle.resh_ops.specs.Updates.{acted, acted_all, updated, paths_of, IsUpdate}
 use Rattle.resh_ops.specs.Changes.{assigned, unset}
 use Rattle.resh_ops.specs.declared.doing.Doing.TheVariants.{Writes, Fails}
 use Rattle.resh_ops.specs.declared.doing.Refusal.TheVariants.{OutOfRange}
@@ -20,14 +20,10 @@ abbrev pub SetReadsBack : Type 0
 SetReadsBack = (name : List ℕ) (rest : Path) (value : Value) (document after : Document)
     → acted (record { path = name ∷ rest; operator = Set value }) document ≡ Ok after → reach (name ∷ rest) after ≡ here value
 
--- an action's paths aren't related, as in each update that was read
-abbrev pub IsApart : Action → Type 0
-IsApart action = list_any (λ p. is_related p action.path) (other_path action.operator) ≡ false
-
 -- an action leaves what each path reaches that isn't related to one of its own
 abbrev pub KeepsUnrelated : Type 0
 KeepsUnrelated = (action : Action) (document after : Document) (other : Path)
-    → IsApart action → acted action document ≡ Ok after → list_any (is_related other) (paths_of action) ≡ false → reach other after ≡ reach other document
+    → acted action document ≡ Ok after → list_any (is_related other) (paths_of action) ≡ false → reach other after ≡ reach other document
 
 -- an update leaves the `_id`
 abbrev pub KeepsId : Type 0

@@ -4,3 +4,4 @@ pub mod Updates
 pub mod Changes
 pub mod Laws
 pub mod Reading
+pub mod Apart

@@ -21,7 +21,7 @@ pub data Reached : Type 0 where
   missing : Reached
   scalar : Reached
 
--- the same of what the program's answer borrows
+-- the same, where an answer of the program borrows the value
 abbrev pub reached : Answer → Reached
 reached (Here value) = here value.now
 reached Missing = missing

@@ -19,8 +19,11 @@ use std::alloc::Global;
 const MOST_LEVELS: u32 = 32;
 
 impl Update {
-    /// The change from a document to what the update makes of it, whose text may have at most `limit` bytes. The change
-    /// assigns the top-level fields that are new or have another value, and unsets those that are gone.
+    /// The change from a document to what the update makes of it. It assigns the top-level fields that are new or have
+    /// another value, and unsets those that are gone.
+    ///
+    /// The fault is that of the first action that has one, else `TooLarge` where the result's text has more than `limit`
+    /// bytes, else `TooDeep` where the result has more than 32 levels.
     pub fn change(&self, document: &Document, limit: u32) -> Result<Change, ChangeFault>
         ensures ok { IfOk result (λ change. (after : Fields) × (updated limit self.now document.now ≡ Ok after) × LeadsTo document.now after change.assign change.unset) }
         ensures fault { IfErr result (λ f. f ≢ ChangeFault.NoMemory → updated limit self.now document.now ≡ Err f) }
@@ -48,7 +51,7 @@ fn within_limits(alloc: Global, document: Document, limit: u32) -> Result<Docume
     ensures { Gives ChangeFault.NoMemory result (within_limits limit document) }
 {
     let text = document.append_text(Vec::new(alloc))?;
-    if text.len() as u64 > limit as u64 {
+    if text.len() as u64 > u64::from(limit) {
         return Err(ChangeFault::TooLarge);
     }
     if document.depth() > MOST_LEVELS {

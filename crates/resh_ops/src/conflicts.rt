@@ -1,8 +1,10 @@
 //! Paths of an update that equal, begin or extend one another.
 
 ghost use Rattle.std.specs.Prelude.{◌≡◌, ◌≢◌, ◌++◌, [], IfOk, map, option_map};
-ghost use Rattle.std.specs.List.{list_any, flat_map};
+ghost use Rattle.std.specs.List.{list_any, flat_map, starts_with};
+ghost use Rattle.resh_value.specs.Names.{same_name};
 ghost use Rattle.resh_value.specs.Outcome.{Gives};
+ghost use Rattle.resh_ops.specs.Apart.{AreApart};
 ghost use Rattle.resh_ops.specs.Paths.{dotted, is_related};
 ghost use Rattle.resh_ops.specs.Reading.{first_conflict, without_conflict};
 ghost use Rattle.resh_ops.specs.Updates.{paths_of};
@@ -12,6 +14,7 @@ use crate::operator::{Action, Operator};
 use crate::path::dotted;
 use resh_value::{Names, NoMemory, Sequence, Words};
 use std::alloc::Global;
+use std::collections::BTreeSet;
 
 /// The actions, where no path conflicts with an earlier one.
 pub(crate) fn without_conflict(
@@ -32,7 +35,7 @@ fn conflict_in(alloc: Global, actions: &[Action]) -> Result<Option<Words>, NoMem
     ensures { IfOk result (λ text. text ≡ option_map dotted (first_conflict [] (flat_map paths_of actions.now))) }
 {
     let paths = paths_in(alloc, actions)?;
-    match first_conflict(paths.as_slice()) {
+    match first_conflict(alloc, paths.as_slice())? {
         None => Ok(None),
         Some(path) => Ok(Some(dotted(alloc, path.as_slice())?)),
     }
@@ -52,25 +55,43 @@ fn paths_in(alloc: Global, actions: &[Action]) -> Result<Vec<&Names>, NoMemory>
     Ok(paths)
 }
 
-fn first_conflict<'a>(paths: &[&'a Names]) -> Option<&'a Names>
-    ensures { option_map (λ p. p.now) result ≡ first_conflict [] (map (λ p. p.now) paths.now) }
+/// The first path that equals, begins or extends an earlier one.
+fn first_conflict<'a>(alloc: Global, paths: &[&'a Names]) -> Result<Option<&'a Names>, NoMemory>
+    ensures { IfOk result (λ found. option_map (λ p. p.now) found ≡ first_conflict [] (map (λ p. p.now) paths.now)) }
 {
-    for i in 0..paths.len() {
-        if is_related_to_any(paths[i], &paths[..i]) {
-            return Some(paths[i]);
+    let mut taken = BTreeSet::new(alloc);
+    for path in paths {
+        if is_related_to_one(&taken, *path) {
+            return Ok(Some(*path));
         }
+        taken.insert(*path)?;
     }
-    None
+    Ok(None)
 }
 
-fn is_related_to_any(path: &Names, others: &[&Names]) -> bool
-    ensures { result ≡ list_any (is_related path.now) (map (λ p. p.now) others.now) }
+/// Whether the path equals, begins or extends one of these. In their order such a one stands beside the path.
+fn is_related_to_one<'a>(taken: &BTreeSet<&'a Names>, path: &'a Names) -> bool
+    requires { AreApart (map (λ p. p.now) taken.now.keys) }
+    ensures { result ≡ list_any (is_related path.now) (map (λ p. p.now) taken.now.keys) }
 {
-    others.iter().any(|other| is_related(path, other))
+    extends_one(taken, path) || begins_one(taken, path)
 }
 
-fn is_related(a: &Names, b: &Names) -> bool
-    ensures { result ≡ is_related a.now b.now }
+fn extends_one<'a>(taken: &BTreeSet<&'a Names>, path: &'a Names) -> bool
+    requires { AreApart (map (λ p. p.now) taken.now.keys) }
+    ensures { result ≡ list_any (λ p. starts_with same_name path.now p.now) taken.now.keys }
 {
-    a.as_slice().starts_with(b.as_slice()) || b.as_slice().starts_with(a.as_slice())
+    match taken.range(..=path).next_back() {
+        Some(other) => path.as_slice().starts_with(other.as_slice()),
+        None => false,
+    }
+}
+
+fn begins_one<'a>(taken: &BTreeSet<&'a Names>, path: &'a Names) -> bool
+    ensures { result ≡ list_any (λ p. starts_with same_name p.now path.now) taken.now.keys }
+{
+    match taken.range(path..).next() {
+        Some(other) => other.as_slice().starts_with(path.as_slice()),
+        None => false,
+    }
 }

@@ -15,7 +15,7 @@ use resh_value::{Items, Names, NoMemory, Value, compare};
 use std::alloc::Global;
 
 /// What is done at a path.
-#[derive(Debug, Drop)]
+#[derive(Drop)]
 pub(crate) enum Doing {
     Keeps,
     Writes(Value),
@@ -26,7 +26,7 @@ pub(crate) enum Doing {
 }
 
 /// Why an operator doesn't do what it is asked.
-#[derive(Debug, Drop, Clone, Copy, PartialEq, Eq)]
+#[derive(Drop)]
 pub(crate) enum Refusal {
     NotNumber,
     OutOfRange,

@@ -44,6 +44,7 @@ pub enum Side {
 }
 
 impl Action {
+    /// An action with the same path and operator.
     pub fn copy(&self, alloc: Global) -> Result<Action, NoMemory>
         ensures { IfOk result (λ a. a ≡ self.now) }
     {
@@ -60,6 +61,7 @@ impl Copied for Action {
 }
 
 impl Operator {
+    /// An operator with the same operand.
     pub fn copy(&self, alloc: Global) -> Result<Operator, NoMemory>
         ensures { IfOk result (λ o. o ≡ self.now) }
     {

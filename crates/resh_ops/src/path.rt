@@ -9,7 +9,7 @@ use resh_value::{Document, NoMemory, Value, Words};
 use std::alloc::Global;
 
 /// What a path reaches.
-#[derive(Debug, Drop)]
+#[derive(Drop)]
 pub(crate) enum Reached<'a> {
     Here(&'a Value),
     /// No field.

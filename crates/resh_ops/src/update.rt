@@ -30,6 +30,7 @@ impl Model for Update {
 }
 
 impl Update {
+    /// An update of these actions, whose paths are paths.
     pub(crate) fn of(actions: Sequence<Action>) -> Update
         requires { IsUpdate actions }
         ensures { result ≡ actions }
@@ -43,8 +44,7 @@ impl Update {
         *self.actions.allocator()
     }
 
-    /// The operators with their paths, in the order in which they are taken.
-    pub fn actions(&self) -> &[Action]
+    pub(crate) fn actions(&self) -> &[Action]
         ensures { result.now ≡ self.now }
     {
         self.actions.as_slice()
