@@ -1,4 +1,6 @@
 use resh_chunks::ChunkFault;
+use resh_filter::FilterFault;
+use resh_ops::UpdateFault;
 use resh_value::{NoMemory, ValueFault, Words};
 
 /// Why bytes are no cluster file. A path is a JSON Pointer to the place.
@@ -10,6 +12,9 @@ pub enum SetupFault {
     UnknownName { path: Words },
     Value(ValueFault),
     Chunks { path: Words, fault: ChunkFault },
+    /// An update at this place.
+    Update { path: Words, fault: UpdateFault },
+    Filter(FilterFault),
     /// The document of this row, from 0, has the shard and the `_id` of an earlier one.
     SameId { row: u64 },
     NoId { path: Words },

@@ -1,10 +1,14 @@
 //! What a cluster file says, and the turns of a run.
 #![tactic(auto)]
 
+mod client;
 mod fault;
+mod plan;
 mod setup;
 mod turn;
 
+pub use client::{Answers, Client, Clients};
 pub use fault::SetupFault;
-pub use setup::{Documents, Holdings, Setup};
+pub use plan::{Plan, Planned, Who};
+pub use setup::{Holdings, Setup};
 pub use turn::{Turn, Turns};

@@ -1,8 +1,8 @@
+use crate::client::Clients;
 use resh_chunks::ChunkMap;
-use resh_value::{Document, Names, Sequence};
+use resh_shard::Documents;
+use resh_value::{Names, Sequence};
 
-/// A list of documents.
-pub type Documents = Sequence<Document>;
 /// The documents of each shard.
 pub type Holdings = Sequence<Documents>;
 
@@ -13,10 +13,11 @@ pub struct Setup {
     pub old_map: ChunkMap,
     pub new_map: ChunkMap,
     pub documents: Documents,
+    pub clients: Clients,
     /// The writers of a recipient, 1 to 16.
     pub lanes: u32,
     /// The greatest number of entries of a batch, 1 to 500.
     pub batch: u32,
-    /// Whether the file has clients, steps or a plan, none of which is built yet.
+    /// Whether the file has steps or a plan, none of which is built yet.
     pub unbuilt: bool,
 }

@@ -1,0 +1,57 @@
+ghost use Rattle.std.specs.Prelude.{◌≡◌, IfOk};
+
+use resh_shard::{Commands, Replies};
+use resh_value::{Copied, NoMemory, Sequence, Words};
+use std::alloc::Global;
+
+/// A client's name and its commands.
+#[derive(Debug, Drop)]
+pub struct Client {
+    pub name: Words,
+    pub commands: Commands,
+}
+
+pub type Clients = Sequence<Client>;
+/// The replies of each client.
+pub type Answers = Sequence<Replies>;
+
+impl Client {
+    pub fn copy(&self) -> Result<Client, NoMemory>
+        ensures { IfOk result (λ client. client ≡ self.now) }
+    {
+        Ok(Client {
+            name: self.name.copy()?,
+            commands: self.commands.copy()?,
+        })
+    }
+}
+
+impl Copied for Client {
+    fn copied(&self, _alloc: Global) -> Result<Client, NoMemory> {
+        self.copy()
+    }
+}
+
+#[cfg(test)]
+mod tests {
+    use super::*;
+    use resh_shard::Command;
+    use std::test::Fail;
+
+    #[test]
+    fn clients_are_copied(rt: HostRuntime) -> Result<(), Fail> {
+        let alloc = rt.alloc();
+        let mut commands = Commands::new(alloc);
+        if commands.push(Command::Abort).is_err() {
+            return Err(Fail::from("no memory"));
+        }
+        let client = Client {
+            name: Words::of(alloc, "c1")?,
+            commands,
+        };
+        let copied = client.copied(alloc)?;
+        assert_eq!(rt; copied.name.as_str(), "c1");
+        assert_eq!(rt; copied.commands.len(), 1);
+        Ok(())
+    }
+}
