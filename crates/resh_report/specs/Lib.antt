@@ -1,1 +1,6 @@
+pub mod Lines
+pub mod Ends
+pub mod Refusals
+pub mod Replies
 pub mod Page
+pub mod Counts

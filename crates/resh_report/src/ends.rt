@@ -1,20 +1,22 @@
 //! How a run ended, in words.
 
 ghost use Rattle.std.specs.Prelude.{◌≡◌, ◌++◌, IfOk};
-ghost use Rattle.resh_report.specs.Page.{end_text, cause_text, node_text, why_text};
+ghost use Rattle.resh_report.specs.Lines.{names_of};
+ghost use Rattle.resh_report.specs.Ends.{end_text, cause_text, node_text, why_text};
 
-use crate::text::{append, append_name, append_spaced, append_value};
+use crate::text::{append, append_client_name, append_name, append_spaced, append_value};
 use resh_coord::{Cause, End, Node, Why};
+use resh_setup::Client;
 use resh_value::{NoMemory, Words};
 
 /// Writes how a run ended, with its cause.
 pub(crate) fn append_end(
     out: Vec<u8>,
     shards: &[Words],
-    clients: &[Words],
+    clients: &[Client],
     end: &End,
 ) -> Result<Vec<u8>, NoMemory>
-    ensures { IfOk result (λ bytes. bytes.items ≡ out.items ++ end_text shards.now clients.now end.now) }
+    ensures { IfOk result (λ bytes. bytes.items ≡ out.items ++ end_text shards.now (names_of clients.now) end.now) }
 {
     match end {
         End::Committed => append(out, "committed"),
@@ -25,10 +27,10 @@ pub(crate) fn append_end(
 fn append_cause(
     out: Vec<u8>,
     shards: &[Words],
-    clients: &[Words],
+    clients: &[Client],
     cause: &Cause,
 ) -> Result<Vec<u8>, NoMemory>
-    ensures { IfOk result (λ bytes. bytes.items ≡ out.items ++ cause_text shards.now clients.now cause.now) }
+    ensures { IfOk result (λ bytes. bytes.items ≡ out.items ++ cause_text shards.now (names_of clients.now) cause.now) }
 {
     match cause {
         Cause::Clash { shard, id } => {
@@ -36,7 +38,7 @@ fn append_cause(
             append_value(append(out, " ")?, id)
         }
         Cause::Asked { client, number } => {
-            let out = append_name(append(out, "asked ")?, clients, *client as usize)?;
+            let out = append_client_name(append(out, "asked ")?, clients, *client as usize)?;
             append_spaced(out, u64::from(*number))
         }
         Cause::Failed { node, cause } => {

@@ -2,11 +2,15 @@
 #![tactic(auto)]
 
 mod ends;
-mod pages;
-mod refusals;
 #[cfg(test)]
-mod tests;
+mod page_tests;
+mod pages;
+#[cfg(test)]
+mod refusal_tests;
+mod refusals;
+mod replies;
 mod text;
+mod turns;
 
 pub use pages::page;
 pub use refusals::refusal;

@@ -1,51 +1,40 @@
 //! The page of a run.
 
-ghost use Rattle.std.specs.Prelude.{◌≡◌, [], ◌++◌, flat_map, IfOk};
-ghost use Rattle.resh_report.specs.Page.{page_text, turn_lines, name_at, holdings_lines, shard_lines, document_line, end_line};
+ghost use Rattle.std.specs.Prelude.{◌≡◌, ◌++◌, flat_map, IfOk};
+ghost use Rattle.resh_report.specs.Lines.{name_at, names_of};
+ghost use Rattle.resh_report.specs.Ends.{end_line};
+ghost use Rattle.resh_report.specs.Page.{page_text, holdings_lines, shard_lines, document_line};
 
 use crate::ends::append_end;
+use crate::replies::append_answers;
 use crate::text::{append, append_line, append_line_feed, append_name, append_spaced};
+use crate::turns::append_turns;
 use resh_coord::End;
-use resh_setup::{Documents, Holdings, Setup, Turn, Turns};
+use resh_setup::{Answers, Client, Holdings, Setup, Turns};
+use resh_shard::Documents;
 use resh_value::{Document, NoMemory, Words};
 use std::alloc::Global;
 
-/// The page of a run without clients: its marks, each shard's documents, and its end.
+/// The page of a run: its turns in their order, each client's replies, each shard's documents, and its end. `replies`
+/// has a list for each client of the setup, and `shards` one for each shard.
 pub fn page(
     alloc: Global,
     setup: &Setup,
     order: &Turns,
     end: &End,
+    replies: &Answers,
     shards: &Holdings,
 ) -> Result<Vec<u8>, NoMemory>
-    ensures { IfOk result (λ bytes. bytes.items ≡ page_text setup.now.shards order.now end.now shards.now) }
+    ensures { IfOk result (λ bytes. bytes.items ≡ page_text setup.now.shards (names_of setup.now.clients) order.now end.now replies.now shards.now) }
 {
     let names = setup.shards.as_slice();
+    let clients = setup.clients.as_slice();
     let out = append_line(Vec::new(alloc), "steps")?;
     let out = append_line(out, "order")?;
-    let out = append_turns(out, order.as_slice())?;
+    let out = append_turns(out, clients, order.as_slice())?;
+    let out = append_answers(out, clients, replies.as_slice())?;
     let out = append_holdings(out, names, shards.as_slice())?;
-    append_end_line(out, names, end)
-}
-
-fn append_turns(out: Vec<u8>, turns: &[Turn]) -> Result<Vec<u8>, NoMemory>
-    ensures { IfOk result (λ bytes. bytes.items ≡ out.items ++ flat_map turn_lines turns.now) }
-{
-    let mut out = out;
-    for turn in turns {
-        out = append_turn(out, turn)?;
-    }
-    Ok(out)
-}
-
-fn append_turn(out: Vec<u8>, turn: &Turn) -> Result<Vec<u8>, NoMemory>
-    ensures { IfOk result (λ bytes. bytes.items ≡ out.items ++ turn_lines turn.now) }
-{
-    match turn {
-        Turn::Command { .. } => Ok(out),
-        Turn::Switch => append_line(out, "switch"),
-        Turn::Drop(_) => append_line(out, "drop"),
-    }
+    append_end_line(out, names, clients, end)
 }
 
 fn append_holdings(
@@ -89,9 +78,14 @@ fn append_documents(out: Vec<u8>, documents: &[Document]) -> Result<Vec<u8>, NoM
     Ok(out)
 }
 
-fn append_end_line(out: Vec<u8>, names: &[Words], end: &End) -> Result<Vec<u8>, NoMemory>
-    ensures { IfOk result (λ bytes. bytes.items ≡ out.items ++ end_line names.now [] end.now) }
+fn append_end_line(
+    out: Vec<u8>,
+    names: &[Words],
+    clients: &[Client],
+    end: &End,
+) -> Result<Vec<u8>, NoMemory>
+    ensures { IfOk result (λ bytes. bytes.items ≡ out.items ++ end_line names.now (names_of clients.now) end.now) }
 {
-    let out = append_end(append(out, "end ")?, names, &[], end)?;
+    let out = append_end(append(out, "end ")?, names, clients, end)?;
     append_line_feed(out)
 }

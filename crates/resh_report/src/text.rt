@@ -2,8 +2,9 @@
 
 ghost use Rattle.std.specs.Prelude.{◌≡◌, [], ◌∷◌, ◌++◌, codes, decimal, IfOk};
 ghost use Rattle.resh_value.specs.Text.{text_of};
-ghost use Rattle.resh_report.specs.Page.{line, name_at};
+ghost use Rattle.resh_report.specs.Lines.{line, name_at, names_of};
 
+use resh_setup::Client;
 use resh_value::{NoMemory, Value, Words};
 
 /// Writes a text as it stands.
@@ -49,6 +50,20 @@ pub(crate) fn append_name(out: Vec<u8>, names: &[Words], place: usize) -> Result
 {
     match names.get(place) {
         Some(name) => append(out, name.as_str()),
+        None => Ok(out),
+    }
+}
+
+/// Writes the name of the client at a place, or nothing where there is none.
+pub(crate) fn append_client_name(
+    out: Vec<u8>,
+    clients: &[Client],
+    place: usize,
+) -> Result<Vec<u8>, NoMemory>
+    ensures { IfOk result (λ bytes. bytes.items ≡ out.items ++ name_at (names_of clients.now) place) }
+{
+    match clients.get(place) {
+        Some(client) => append(out, client.name.as_str()),
         None => Ok(out),
     }
 }
