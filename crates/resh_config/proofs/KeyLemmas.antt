@@ -8,11 +8,11 @@ use Rattle.resh_value.specs.Names.{same_name}
 use Rattle.resh_chunks.specs.Pattern.{first_repeat, pattern_fault}
 use Rattle.resh_chunks.specs.declared.faults.PatternFault.TheVariants.{Count, Repeated}
 use Rattle.resh_config.specs.Walk.{items_from, list_in, some_of, text_in}
-use Rattle.resh_config.specs.ClusterFile.{accept, is_field_name, key_name_in, key_in, shard_name_in, shards_in}
+use Rattle.resh_config.specs.Names.{accept, is_field_name, key_name_in, key_in, shard_name_in, shards_in}
 use Rattle.resh_config.proofs.Outcomes.{Ok-and_then}
 use Rattle.resh_config.proofs.ListLemmas.{Ok-items_from, Ok-list_in, Ok-some_of, within_limit}
 
-Ok-accept : {A : Type 0} (b : Bool) (a c : A) → accept b a ≡ Ok c → (b ≡ true) × (a ≡ c)
+pub Ok-accept : {A : Type 0} (b : Bool) (a c : A) → accept b a ≡ Ok c → (b ≡ true) × (a ≡ c)
 Ok-accept true a c is = let same : a ≡ c = cc in (refl, same)
 Ok-accept false a c is = cc
 

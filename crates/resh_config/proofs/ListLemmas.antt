@@ -1,6 +1,9 @@
 -- Lists of a cluster file: how many items they have, and what is left of them.
-use Rattle.std.proofs.Common.{◌≡◌, ◌≢◌, ◌∙◌, ℕ, ◌+◌, ◌≤◌, ltb, List, [], ◌∷◌, ◌++◌, length, length-append, Ok, Err, refl, sym, ap, arith}
+use Rattle.std.proofs.Common.{◌≡◌, ◌≢◌, ◌∙◌, ℕ, ◌+◌, ◌≤◌, ltb, Bool, true, subst, List, [], ◌∷◌, ◌++◌, length, length-append, Ok, Err, refl, sym, ap, arith}
+use Rattle.std.specs.Prelude.{◌&&◌}
+use Rattle.std.specs.List.{list_all}
 use Rattle.std.proofs.lemmas.Bool.{ltb-false}
+use Rattle.std.proofs.lemmas.List.Folds.{list_all-append}
 use Rattle.serde_json.specs.Data.{Data, null, boolean, number, string, array, object, Items, no_items, item}
 use Rattle.serde_json.specs.View.{items_view}
 use Rattle.serde_json.specs.declared.value.Value.{Value as Json}
@@ -32,12 +35,21 @@ module _ {A : Type 0} (read : List A → Data → Read A) where
       let s = Ok-and_then (λ (a : A). items_from read (before ++ a ∷ []) ds) (at_step (to_place (length before)) (read before d)) all is in
       (s.0, Ok-in_err (under (to_place (length before))) (read before d) s.0 s.1, s.2)
 
-  length-items_from : (before : List A) (ds : Items) (all : List A) → items_from read before ds ≡ Ok all → length all ≡ length before + count ds
+  pub length-items_from : (before : List A) (ds : Items) (all : List A) → items_from read before ds ≡ Ok all → length all ≡ length before + count ds
   length-items_from before no_items all is = let same : before ≡ all = cc in let e = ap length same in omega arith
   length-items_from before (item d ds) all is =
       let s = Ok-items_from before d ds all is in
       let e = length-items_from (before ++ s.0 ∷ []) ds all s.2 in
       omega (arith, length-append before (s.0 ∷ []))
+
+  -- what each item has that is read, all have
+  pub items_keep : (p : A → Bool) → ((before : List A) (d : Data) (a : A) → read before d ≡ Ok a → p a ≡ true)
+      → (before : List A) (ds : Items) (all : List A) → list_all p before ≡ true → items_from read before ds ≡ Ok all → list_all p all ≡ true
+  items_keep p each before no_items all h is = let same : before ≡ all = cc in subst (λ (xs : List A). list_all p xs ≡ true) same h
+  items_keep p each before (item d ds) all h is =
+      let s = Ok-items_from before d ds all is in
+      let more : list_all p (before ++ s.0 ∷ []) ≡ true = list_all-append p before (s.0 ∷ []) ∙ (λ i. h i && (each before d s.0 s.1 i && true)) in
+      items_keep p each (before ++ s.0 ∷ []) ds all more s.2
 
   -- a list that was read keeps its limit
   pub within_limit : (limit : ℕ) (d : Data) (all : List A) → list_in limit read d ≡ Ok all → length all ≤ limit

@@ -1,33 +1,28 @@
 -- A setup that was read is valid.
-use Rattle.std.proofs.Common.{◌≡◌, ◌∙◌, ℕ, Bool, true, false, cond, List, [], ◌∷◌, ◌++◌, length, Option, Some, None, Result, Ok, Err, refl, sym, ap, subst}
-use Rattle.std.specs.Prelude.{◌&&◌, ◌||◌, nat_lt, codes, IfOk}
+use Rattle.std.proofs.Common.{◌≡◌, ℕ, Bool, true, false, List, [], length, Option, Some, None, Result, Ok, Err, refl, sym, ap, subst}
+use Rattle.std.specs.Prelude.{◌||◌, codes, IfOk}
 use Rattle.std.specs.List.{list_all}
-use Rattle.std.proofs.lemmas.List.Folds.{list_all-append}
-use Rattle.serde_json.specs.Data.{Data, Items, no_items, item, Members}
+use Rattle.serde_json.specs.Data.{Data, Members}
 use Rattle.serde_json.specs.Find.{get_member}
-use Rattle.resh_value.specs.Paths.{to_name}
-use Rattle.resh_value.specs.Outcome.{and_then, in_err, Gives}
-use Rattle.resh_value.specs.FromJson.{document_of}
-use Rattle.resh_value.specs.Text.{document_text}
+use Rattle.resh_value.specs.Outcome.{and_then, Gives}
 use Rattle.resh_chunks.specs.Chunks.{Chunks, chunk_fault}
 use Rattle.resh_chunks.specs.declared.bound.ChunkRow.{ChunkRow}
 use Rattle.resh_chunks.specs.declared.faults.ChunkFault.{ChunkFault}
+use Rattle.resh_setup.specs.declared.client.Client.{Client}
 use Rattle.resh_setup.specs.declared.setup.Setup.{Setup}
 use Rattle.resh_setup.specs.declared.fault.SetupFault.{SetupFault}
-use Rattle.resh_setup.specs.declared.fault.SetupFault.TheVariants.{NoId, OverLimit, NoMemory, Value as InValue}
+use Rattle.resh_setup.specs.declared.fault.SetupFault.TheVariants.{NoMemory}
 use Rattle.resh_config.specs.declared.maps.Maps.{Maps}
-use Rattle.resh_config.specs.Walk.{Read, under, required, field, field_or, row_with, number_in, has_items, list_in, items_from}
-use Rattle.resh_config.specs.ClusterFile.{Document, with_rules, document_in, documents_in, distinct_only, first_same, chunk_row_in, tested_chunks, chunks_in, shards_in, key_in, root_names, maps_in, rest_in, setup_in}
+use Rattle.resh_config.specs.Walk.{Read, field, field_or, row_with, number_in, has_items, list_in}
+use Rattle.resh_config.specs.Names.{shards_in, key_in}
+use Rattle.resh_config.specs.Documents.{Document, document_in}
+use Rattle.resh_config.specs.Clients.{clients_in}
+use Rattle.resh_config.specs.ClusterFile.{documents_in, distinct_only, first_same, chunk_row_in, tested_chunks, chunks_in, root_names, maps_in, rest_in, setup_in}
 use Rattle.resh_config.specs.Validity.{has_id, IsValid}
-use Rattle.resh_config.proofs.Outcomes.{Ok-and_then, Ok-in_err}
-use Rattle.resh_config.proofs.ListLemmas.{Ok-items_from, Ok-list_in}
-
-same_in_Ok : {A E : Type 0} (x y : A) → ◌≡◌ {A = Result A E} (Ok x) (Ok y) → x ≡ y
-same_in_Ok x y e = cc
-
-Ok-required : {A : Type 0} (name : List ℕ) (read : Data → Read A) (o : Option Data) (a : A) → required name read o ≡ Ok a → (d : Data) × (read d ≡ Ok a)
-Ok-required name read None a is = cc
-Ok-required name read (Some d) a is = (d, Ok-in_err (under (to_name name)) (read d) a is)
+use Rattle.resh_config.proofs.Outcomes.{Ok-and_then, Ok-required, same_in_Ok}
+use Rattle.resh_config.proofs.ListLemmas.{Ok-list_in, items_keep}
+use Rattle.resh_config.proofs.DocumentLemmas.{document_has_id}
+use Rattle.resh_config.proofs.ClientLemmas.{clients_kept}
 
 Ok-tested : (chunks : Chunks) (fault : Option ChunkFault) (m : Chunks) → tested_chunks chunks fault ≡ Ok m → (fault ≡ None) × (chunks ≡ m)
 Ok-tested chunks None m is = let same : chunks ≡ m = cc in (refl, same)
@@ -48,25 +43,6 @@ chunks_over shards key d m is =
       count = sym (ap (λ (c : Chunks). c.shards) t.1);
     }
 
-ruled_by : (document a : Document) (named long : Bool) (no_id over : SetupFault) → cond named (cond long (Err over) (Ok document)) (Err no_id) ≡ Ok a → (named ≡ true) × (document ≡ a)
-ruled_by document a true true no_id over is = cc
-ruled_by document a true false no_id over is = let same : document ≡ a = cc in (refl, same)
-ruled_by document a false long no_id over is = cc
-
-document_has_id : (before : List Document) (d : Data) (a : Document) → document_in before d ≡ Ok a → has_id a ≡ true
-document_has_id before d a is =
-    let s = Ok-and_then with_rules (in_err InValue (document_of d)) a is in
-    let t = ruled_by s.0 a (has_id s.0) (nat_lt 16384 (length (document_text s.0))) (NoId []) (OverLimit [] 16384) s.2 in
-    subst (λ (x : Document). has_id x ≡ true) t.1 t.0
-
-all_have_ids : (before : List Document) (ds : Items) (all : List Document) → list_all has_id before ≡ true → items_from document_in before ds ≡ Ok all → list_all has_id all ≡ true
-all_have_ids before no_items all h is = let same : before ≡ all = cc in subst (λ (xs : List Document). list_all has_id xs ≡ true) same h
-all_have_ids before (item d ds) all h is =
-    let s = Ok-items_from document_in before d ds all is in
-    let more : list_all has_id (before ++ s.0 ∷ []) ≡ true =
-    list_all-append has_id before (s.0 ∷ []) ∙ (λ i. h i && (document_has_id before d s.0 s.1 i && true)) in
-    all_have_ids (before ++ s.0 ∷ []) ds all more s.2
-
 Ok-distinct_only : (row : Option ℕ) (documents all : List Document) → distinct_only row documents ≡ Ok all → (row ≡ None) × (documents ≡ all)
 Ok-distinct_only None documents all is = let same : documents ≡ all = cc in (refl, same)
 Ok-distinct_only (Some row) documents all is = cc
@@ -82,7 +58,7 @@ documents_placed chunks d all is =
     let t = Ok-distinct_only (first_same chunks [] s.0) s.0 all s.2 in
     let items = Ok-list_in document_in 100000 d s.0 s.1 in
     record {
-      ids = subst (λ (xs : List Document). list_all has_id xs ≡ true) t.1 (all_have_ids [] items.0 s.0 refl items.1);
+      ids = subst (λ (xs : List Document). list_all has_id xs ≡ true) t.1 (items_keep document_in has_id document_has_id [] items.0 s.0 refl items.1);
       distinct = subst (λ (xs : List Document). first_same chunks [] xs ≡ None) t.1 t.0;
     }
 
@@ -127,36 +103,37 @@ module _ (ds : Members) where
 
   -- what is read of the rest after each field
   module _ (maps : Maps) where
-    abbrev after_plan : List Document → Bool → ℕ → ℕ → Bool → Bool → Read Setup
+    abbrev after_plan : List Document → List Client → ℕ → ℕ → Bool → Bool → Read Setup
     after_plan documents clients lanes batch steps plan =
-        Ok (record { shards = maps.shards; old_map = maps.old_map; new_map = maps.new_map; documents = documents; lanes = lanes; batch = batch; unbuilt = clients || steps || plan })
+        Ok (record { shards = maps.shards; old_map = maps.old_map; new_map = maps.new_map; documents = documents; clients = clients; lanes = lanes; batch = batch; unbuilt = steps || plan })
 
-    abbrev after_steps : List Document → Bool → ℕ → ℕ → Bool → Read Setup
+    abbrev after_steps : List Document → List Client → ℕ → ℕ → Bool → Read Setup
     after_steps documents clients lanes batch steps = and_then (after_plan documents clients lanes batch steps) (field_or false ds (codes "plan") (has_items 1000))
 
-    abbrev after_batch : List Document → Bool → ℕ → ℕ → Read Setup
+    abbrev after_batch : List Document → List Client → ℕ → ℕ → Read Setup
     after_batch documents clients lanes batch = and_then (after_steps documents clients lanes batch) (field_or false ds (codes "steps") (has_items 100000))
 
-    abbrev after_lanes : List Document → Bool → ℕ → Read Setup
+    abbrev after_lanes : List Document → List Client → ℕ → Read Setup
     after_lanes documents clients lanes = and_then (after_batch documents clients lanes) (field_or 500 ds (codes "batch") (number_in 1 500))
 
-    abbrev after_clients : List Document → Bool → Read Setup
+    abbrev after_clients : List Document → List Client → Read Setup
     after_clients documents clients = and_then (after_lanes documents clients) (field_or 4 ds (codes "lanes") (number_in 1 16))
 
     abbrev after_documents : List Document → Read Setup
-    after_documents documents = and_then (after_clients documents) (field_or false ds (codes "clients") (has_items 16))
+    after_documents documents = and_then (after_clients documents) (field_or [] ds (codes "clients") clients_in)
 
     rest_valid : (setup : Setup) → AreOver maps → rest_in maps ds ≡ Ok setup → IsValid setup
     rest_valid setup over is =
         let documents = Ok-and_then after_documents (field ds (codes "documents") (documents_in maps.old_map)) setup is in
-        let clients = Ok-and_then (after_clients documents.0) (field_or false ds (codes "clients") (has_items 16)) setup documents.2 in
+        let clients = Ok-and_then (after_clients documents.0) (field_or [] ds (codes "clients") clients_in) setup documents.2 in
         let lanes = Ok-and_then (after_lanes documents.0 clients.0) (field_or 4 ds (codes "lanes") (number_in 1 16)) setup clients.2 in
         let batch = Ok-and_then (after_batch documents.0 clients.0 lanes.0) (field_or 500 ds (codes "batch") (number_in 1 500)) setup lanes.2 in
         let steps = Ok-and_then (after_steps documents.0 clients.0 lanes.0 batch.0) (field_or false ds (codes "steps") (has_items 100000)) setup batch.2 in
         let plan = Ok-and_then (after_plan documents.0 clients.0 lanes.0 batch.0 steps.0) (field_or false ds (codes "plan") (has_items 1000)) setup steps.2 in
         let read = Ok-required (codes "documents") (documents_in maps.old_map) (get_member (codes "documents") ds) documents.0 documents.1 in
         let placed = documents_placed maps.old_map read.0 documents.0 read.1 in
-        let found : Setup = record { shards = maps.shards; old_map = maps.old_map; new_map = maps.new_map; documents = documents.0; lanes = lanes.0; batch = batch.0; unbuilt = clients.0 || steps.0 || plan.0 } in
+        let asked = clients_kept (get_member (codes "clients") ds) clients.0 clients.1 in
+        let found : Setup = record { shards = maps.shards; old_map = maps.old_map; new_map = maps.new_map; documents = documents.0; clients = clients.0; lanes = lanes.0; batch = batch.0; unbuilt = steps.0 || plan.0 } in
         let same : found ≡ setup = same_in_Ok found setup plan.2 in
         let valid : IsValid found = record {
           old_whole = over.old.whole;
@@ -165,6 +142,10 @@ module _ (ds : Members) where
           new_shards = over.new.count;
           ids = placed.ids;
           distinct = placed.distinct;
+          client_names = asked.names;
+          few_clients = asked.few_clients;
+          few_commands = asked.few_commands;
+          inserted_ids = asked.inserted_ids;
         } in
         subst IsValid same valid
 

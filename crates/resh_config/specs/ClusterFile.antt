@@ -1,18 +1,15 @@
 -- The cluster file: which setup a JSON value is, or its first fault.
-use Rattle.std.specs.Prelude.{◌≡◌, ℕ, Bool, false, cond, not, ◌&&◌, ◌||◌, ◌==◌, nat_lt, nat_le, List, [], ◌∷◌, ◌++◌, length, slice_index, position, codes, Option, Some, None, Ok, Err}
-use Rattle.std.specs.List.{list_all, list_any}
-use Rattle.std.specs.Char.{is_ascii_digit}
-use Rattle.std.specs.Int.{is_in_range}
+use Rattle.std.specs.Prelude.{◌≡◌, ℕ, Bool, false, cond, ◌&&◌, ◌||◌, ◌==◌, List, [], ◌∷◌, ◌++◌, length, position, codes, Option, Some, None, Ok, Err}
+use Rattle.std.specs.List.{list_any}
+use Rattle.std.specs.Ordering.{is_eq}
 use Rattle.std.specs.Str.{IsUtf8}
 use Rattle.serde_json.specs.Data.{Data, null, boolean, number, string, array, object, Members}
 use Rattle.serde_json.specs.Read.{read as read_text}
 use Rattle.resh_value.specs.Names.{same_name}
-use Rattle.resh_value.specs.Lookup.{field_of, value_under}
-use Rattle.std.specs.Ordering.{is_eq}
-use Rattle.resh_value.specs.Order.{compare_of, kind}
+use Rattle.resh_value.specs.Lookup.{value_under}
+use Rattle.resh_value.specs.Order.{compare_of}
 use Rattle.resh_value.specs.Outcome.{and_then, in_err}
-use Rattle.resh_value.specs.FromJson.{value_of, document_of}
-use Rattle.resh_value.specs.Text.{document_text}
+use Rattle.resh_value.specs.FromJson.{value_of}
 use Rattle.resh_value.specs.declared.value.Value.{Value}
 use Rattle.resh_value.specs.declared.value.ShardId.{ShardId}
 use Rattle.resh_chunks.specs.Chunks.{Chunks, chunk_fault, owner_of}
@@ -22,36 +19,12 @@ use Rattle.resh_chunks.specs.declared.bound.ChunkRow.{ChunkRow}
 use Rattle.resh_chunks.specs.declared.faults.ChunkFault.{ChunkFault}
 use Rattle.resh_setup.specs.declared.setup.Setup.{Setup}
 use Rattle.resh_setup.specs.declared.fault.SetupFault.{SetupFault}
-use Rattle.resh_setup.specs.declared.fault.SetupFault.TheVariants.{NotJson, WrongKind, UnknownName, Value as InValue, Chunks as InChunks, SameId, NoId, OverLimit}
+use Rattle.resh_setup.specs.declared.fault.SetupFault.TheVariants.{NotJson, WrongKind, UnknownName, Value as InValue, Chunks as InChunks, SameId}
 use Rattle.resh_config.specs.declared.maps.Maps.{Maps}
-use Rattle.resh_config.specs.Walk.{Read, row_with, field, field_or, number_in, text_in, items_from, list_in, some_of, has_items}
-
--- names of shards and clients have 1 to 16 of `a` to `z`, `0` to `9` and `_`
-abbrev pub is_node_byte : ℕ → Bool
-is_node_byte b = is_in_range 97 122 b || is_ascii_digit b || (b == 95)
-
-abbrev pub is_node_name : List ℕ → Bool
-is_node_name name = nat_lt 0 (length name) && nat_le (length name) 16 && list_all is_node_byte name
-
-abbrev pub accept : {A : Type 0} → Bool → A → Read A
-accept b a = cond b (Ok a) (Err (WrongKind []))
-
--- a shard's name: none is `coordinator`, and none comes twice
-abbrev pub shard_name_in : List (List ℕ) → Data → Read (List ℕ)
-shard_name_in before d = and_then (λ name. accept (is_node_name name && not (same_name name (codes "coordinator")) && not (list_any (same_name name) before)) name) (text_in d)
-
-abbrev pub shards_in : Data → Read (List (List ℕ))
-shards_in d = and_then some_of (list_in 8 shard_name_in d)
-
--- a top-level name: not empty, without a dot, not beginning with `$`
-abbrev pub is_field_name : List ℕ → Bool
-is_field_name name = nat_lt 0 (length name) && not (slice_index name 0 == 36) && list_all (λ b. not (b == 46)) name
-
-abbrev pub key_name_in : List (List ℕ) → Data → Read (List ℕ)
-key_name_in before d = and_then (λ name. accept (is_field_name name && not (list_any (same_name name) before)) name) (text_in d)
-
-abbrev pub key_in : Data → Read (List (List ℕ))
-key_in d = and_then some_of (list_in 3 key_name_in d)
+use Rattle.resh_config.specs.Walk.{Read, row_with, field, field_or, number_in, text_in, items_from, list_in, has_items}
+use Rattle.resh_config.specs.Names.{is_node_name, shards_in, key_in}
+use Rattle.resh_config.specs.Documents.{Document, document_in}
+use Rattle.resh_config.specs.Clients.{clients_in}
 
 -- a chunk's bound: `"MinKey"`, `"MaxKey"` or the values that a key begins with
 abbrev pub bound_value_in : List Value → Data → Read Value
@@ -100,23 +73,6 @@ chunks_in shards key d =
     and_then (λ rows. let chunks : Chunks = record { pattern = key; rows = rows; shards = length shards } in tested_chunks chunks (chunk_fault chunks))
     (list_in 64 (chunk_row_in shards) d)
 
-abbrev pub Document : Type 0
-Document = List (List ℕ × Value)
-
--- an `_id` is there, and is no array
-abbrev pub is_id : Option Value → Bool
-is_id None = false
-is_id (Some v) = not (kind v == 4)
-
-abbrev pub with_rules : Document → Read Document
-with_rules document =
-    cond (is_id (field_of document (codes "_id")))
-    (cond (nat_lt 16384 (length (document_text document))) (Err (OverLimit [] 16384)) (Ok document))
-    (Err (NoId []))
-
-abbrev pub document_in : List Document → Data → Read Document
-document_in before d = and_then with_rules (in_err InValue (document_of d))
-
 -- two documents of one shard and one `_id`
 abbrev pub same_place : Chunks → Document → Document → Bool
 same_place chunks a b = (owner_of chunks a == owner_of chunks b) && is_eq (compare_of (value_under a (codes "_id")) (value_under b (codes "_id")))
@@ -152,12 +108,12 @@ maps_in ds =
 abbrev pub rest_in : Maps → Members → Read Setup
 rest_in maps ds =
     and_then (λ documents. and_then (λ clients. and_then (λ lanes. and_then (λ batch. and_then (λ steps. and_then (λ plan.
-    Ok (record { shards = maps.shards; old_map = maps.old_map; new_map = maps.new_map; documents = documents; lanes = lanes; batch = batch; unbuilt = clients || steps || plan }))
+    Ok (record { shards = maps.shards; old_map = maps.old_map; new_map = maps.new_map; documents = documents; clients = clients; lanes = lanes; batch = batch; unbuilt = steps || plan }))
     (field_or false ds (codes "plan") (has_items 1000)))
     (field_or false ds (codes "steps") (has_items 100000)))
     (field_or 500 ds (codes "batch") (number_in 1 500)))
     (field_or 4 ds (codes "lanes") (number_in 1 16)))
-    (field_or false ds (codes "clients") (has_items 16)))
+    (field_or [] ds (codes "clients") clients_in))
     (field ds (codes "documents") (documents_in maps.old_map))
 
 abbrev pub setup_in : Data → Read Setup

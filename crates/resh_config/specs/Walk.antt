@@ -7,8 +7,10 @@ use Rattle.resh_value.specs.Names.{same_name}
 use Rattle.resh_value.specs.Outcome.{and_then, in_err}
 use Rattle.resh_value.specs.Paths.{to_name, to_place}
 use Rattle.resh_value.specs.FromJson.{under as value_under}
+use Rattle.resh_filter.specs.Filters.{under as filter_under}
+use Rattle.resh_ops.specs.Reading.{under as update_under}
 use Rattle.resh_setup.specs.declared.fault.SetupFault.{SetupFault}
-use Rattle.resh_setup.specs.declared.fault.SetupFault.TheVariants.{NotJson, Missing, WrongKind, UnknownName, Value, Chunks, SameId, NoId, OverLimit, NoMemory}
+use Rattle.resh_setup.specs.declared.fault.SetupFault.TheVariants.{NotJson, Missing, WrongKind, UnknownName, Value, Chunks, Update, Filter, SameId, NoId, OverLimit, NoMemory}
 
 abbrev pub Read : Type 0 → Type 0
 Read A = Result A SetupFault
@@ -29,6 +31,8 @@ under step (WrongKind path) = WrongKind (step ++ path)
 under step (UnknownName path) = UnknownName (step ++ path)
 under step (Value fault) = Value (value_under step fault)
 under step (Chunks path fault) = Chunks (step ++ path) fault
+under step (Update path fault) = Update (step ++ path) (update_under step fault)
+under step (Filter fault) = Filter (filter_under step fault)
 under step (SameId row) = SameId row
 under step (NoId path) = NoId (step ++ path)
 under step (OverLimit path limit) = OverLimit (step ++ path) limit

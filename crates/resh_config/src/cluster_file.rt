@@ -5,12 +5,13 @@ ghost use Rattle.resh_value.specs.Outcome.{Gives, and_then};
 ghost use Rattle.resh_config.specs.ClusterFile.{maps_in, rest_in, setup_in};
 
 use crate::chunks::Chunks;
+use crate::clients::ClientList;
 use crate::documents::Collection;
 use crate::lists::HasItems;
 use crate::maps::Maps;
 use crate::names::{Key, Shards};
 use crate::walk::{NumberIn, optional, required, row_with};
-use resh_setup::{Setup, SetupFault};
+use resh_setup::{Clients, Setup, SetupFault};
 use serde_json::{Map, Value as Json};
 use std::alloc::Global;
 
@@ -83,7 +84,7 @@ fn rest_in(alloc: Global, maps: Maps, members: &Map<String, Json>) -> Result<Set
         new_map,
     } = maps;
     let documents = required(alloc, members, "documents", Collection { map: &old_map })?;
-    let clients = optional(alloc, members, "clients", HasItems { limit: 16 }, false)?;
+    let clients = optional(alloc, members, "clients", ClientList, Clients::new(alloc))?;
     let lanes = optional(alloc, members, "lanes", NumberIn { low: 1, high: 16 }, 4)?;
     let batch = optional(alloc, members, "batch", NumberIn { low: 1, high: 500 }, 500)?;
     let steps = optional(alloc, members, "steps", HasItems { limit: 100_000 }, false)?;
@@ -93,8 +94,9 @@ fn rest_in(alloc: Global, maps: Maps, members: &Map<String, Json>) -> Result<Set
         old_map,
         new_map,
         documents,
+        clients,
         lanes,
         batch,
-        unbuilt: clients || steps || plan,
+        unbuilt: steps || plan,
     })
 }

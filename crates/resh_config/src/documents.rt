@@ -5,13 +5,15 @@ ghost use Rattle.resh_value.specs.Lookup.{field_of, value_under};
 ghost use Rattle.resh_value.specs.Order.{kind};
 ghost use Rattle.resh_value.specs.Outcome.{Gives};
 ghost use Rattle.resh_value.specs.Text.{document_text};
-ghost use Rattle.resh_config.specs.ClusterFile.{is_id, with_rules, document_in, documents_in, first_same, distinct_only};
+ghost use Rattle.resh_config.specs.Documents.{is_id, with_rules, document_in};
+ghost use Rattle.resh_config.specs.ClusterFile.{documents_in, first_same, distinct_only};
 
 use crate::faults::{in_value, no_id, no_path, over_limit};
 use crate::lists::{ItemReader, list_in};
 use crate::walk::FieldReader;
 use resh_chunks::ChunkMap;
-use resh_setup::{Documents, SetupFault};
+use resh_setup::SetupFault;
+use resh_shard::Documents;
 use resh_value::{Document, NoMemory, Value};
 use serde_json::Value as Json;
 use std::alloc::Global;
@@ -146,6 +148,20 @@ impl ItemReader for DocumentReader {
             Ok(document) => self.with_rules(alloc, document),
             Err(fault) => Err(in_value(fault)),
         }
+    }
+}
+
+/// Reads a document that a client inserts.
+#[derive(Drop)]
+pub(crate) struct Inserted;
+
+impl FieldReader for Inserted {
+    type Content = Document;
+
+    ghost reads = { λ _. document_in [] };
+
+    fn read(self, alloc: Global, json: &Json) -> Result<Document, SetupFault> {
+        DocumentReader::new(alloc).read(alloc, &[], json)
     }
 }
 

@@ -2,9 +2,13 @@
 
 ghost use Rattle.std.specs.Prelude.{◌≡◌, ◌≢◌, ◌++◌, [], IfOk};
 ghost use Rattle.resh_value.specs.FromJson.{under as value_under};
+ghost use Rattle.resh_filter.specs.Filters.{under as filter_under};
+ghost use Rattle.resh_ops.specs.Reading.{under as update_under};
 ghost use Rattle.resh_value.specs.Paths.{to_name, to_place};
 ghost use Rattle.resh_config.specs.Walk.{under, IsUnlessNoMemory};
 
+use resh_filter::FilterFault;
+use resh_ops::UpdateFault;
 use resh_setup::SetupFault;
 use resh_value::{NoMemory, ValueFault, Words, path_to_name, path_to_place};
 use std::alloc::Global;
@@ -117,6 +121,11 @@ fn moved(alloc: Global, step: &Words, fault: SetupFault) -> Result<SetupFault, N
             path: joined(alloc, step, &path)?,
             fault,
         }),
+        SetupFault::Update { path, fault } => Ok(SetupFault::Update {
+            path: joined(alloc, step, &path)?,
+            fault: moved_update(alloc, step, fault)?,
+        }),
+        SetupFault::Filter(fault) => Ok(SetupFault::Filter(moved_filter(alloc, step, fault)?)),
         SetupFault::SameId { row } => Ok(SetupFault::SameId { row }),
         SetupFault::NoId { path } => Ok(SetupFault::NoId {
             path: joined(alloc, step, &path)?,
@@ -132,23 +141,35 @@ fn moved(alloc: Global, step: &Words, fault: SetupFault) -> Result<SetupFault, N
 fn moved_value(alloc: Global, step: &Words, fault: ValueFault) -> Result<ValueFault, NoMemory>
     ensures { IfOk result (λ f. f ≡ value_under step.now fault) }
 {
+    match fault.under(alloc, step) {
+        ValueFault::NoMemory => Err(NoMemory),
+        fault => Ok(fault),
+    }
+}
+
+fn moved_filter(alloc: Global, step: &Words, fault: FilterFault) -> Result<FilterFault, NoMemory>
+    ensures { IfOk result (λ f. f ≡ filter_under step.now fault) }
+{
     match fault {
-        ValueFault::NotWhole { path } => Ok(ValueFault::NotWhole {
+        FilterFault::DottedName { path } => Ok(FilterFault::DottedName {
             path: joined(alloc, step, &path)?,
         }),
-        ValueFault::BadTag { path } => Ok(ValueFault::BadTag {
-            path: joined(alloc, step, &path)?,
-        }),
-        ValueFault::TooDeep { path } => Ok(ValueFault::TooDeep {
-            path: joined(alloc, step, &path)?,
-        }),
-        ValueFault::DollarName { path } => Ok(ValueFault::DollarName {
-            path: joined(alloc, step, &path)?,
-        }),
-        ValueFault::NotDocument { path } => Ok(ValueFault::NotDocument {
-            path: joined(alloc, step, &path)?,
-        }),
-        ValueFault::NoMemory => Ok(ValueFault::NoMemory),
+        FilterFault::Value(fault) => Ok(FilterFault::Value(moved_value(alloc, step, fault)?)),
+        FilterFault::NoMemory => Ok(FilterFault::NoMemory),
+    }
+}
+
+/// Only the fault of a value has a place in the file; the paths of the others lie in the update.
+fn moved_update(alloc: Global, step: &Words, fault: UpdateFault) -> Result<UpdateFault, NoMemory>
+    ensures { IfOk result (λ f. f ≡ update_under step.now fault) }
+{
+    match fault {
+        UpdateFault::Value(fault) => Ok(UpdateFault::Value(moved_value(alloc, step, fault)?)),
+        UpdateFault::UnknownOperator { name } => Ok(UpdateFault::UnknownOperator { name }),
+        UpdateFault::Conflict { path } => Ok(UpdateFault::Conflict { path }),
+        UpdateFault::IdPath => Ok(UpdateFault::IdPath),
+        UpdateFault::BadOperand { path } => Ok(UpdateFault::BadOperand { path }),
+        UpdateFault::NoMemory => Ok(UpdateFault::NoMemory),
     }
 }
 
@@ -169,5 +190,30 @@ pub(crate) fn in_value(fault: ValueFault) -> SetupFault
     match fault {
         ValueFault::NoMemory => SetupFault::NoMemory,
         fault => SetupFault::Value(fault),
+    }
+}
+
+/// The fault of a filter.
+pub(crate) fn in_filter(fault: FilterFault) -> SetupFault
+    ensures fault { IsUnlessNoMemory result (SetupFault.Filter fault) }
+    ensures memory { fault ≡ FilterFault.NoMemory → result ≡ SetupFault.NoMemory }
+{
+    match fault {
+        FilterFault::NoMemory => SetupFault::NoMemory,
+        fault => SetupFault::Filter(fault),
+    }
+}
+
+/// The fault of an update.
+pub(crate) fn in_update(alloc: Global, fault: UpdateFault) -> SetupFault
+    ensures fault { IsUnlessNoMemory result (SetupFault.Update [] fault) }
+    ensures memory { fault ≡ UpdateFault.NoMemory → result ≡ SetupFault.NoMemory }
+{
+    match fault {
+        UpdateFault::NoMemory => SetupFault::NoMemory,
+        fault => SetupFault::Update {
+            path: no_path(alloc),
+            fault,
+        },
     }
 }

@@ -2,9 +2,12 @@
 #![tactic(auto)]
 
 mod chunks;
+mod clients;
 mod cluster_file;
+mod commands;
 mod documents;
 mod faults;
+mod form;
 mod lists;
 mod maps;
 mod names;

@@ -76,7 +76,7 @@ pub(crate) fn items_of<R: ItemReader>(
     Ok(Sequence::from_vec(before))
 }
 
-fn count(items: &Vec<Json>) -> u64
+pub(crate) fn count(items: &Vec<Json>) -> u64
     ensures { result ≡ count (items_view items.now.items) }
 {
     items.len() as u64

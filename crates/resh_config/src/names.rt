@@ -6,7 +6,7 @@ ghost use Rattle.serde_json.specs.View.{view};
 ghost use Rattle.resh_chunks.specs.Pattern.{pattern_fault};
 ghost use Rattle.resh_value.specs.Names.{same_name};
 ghost use Rattle.resh_value.specs.Outcome.{Gives};
-ghost use Rattle.resh_config.specs.ClusterFile.{is_node_byte, is_node_name, is_field_name, shard_name_in, shards_in, key_name_in, key_in, accept};
+ghost use Rattle.resh_config.specs.Names.{is_node_byte, is_node_name, is_field_name, shard_name_in, shards_in, key_name_in, key_in, accept};
 
 use crate::faults::wrong_kind;
 use crate::lists::{ItemReader, list_in, some_of};
@@ -115,7 +115,7 @@ impl ItemReader for KeyName {
     }
 }
 
-fn accept(alloc: Global, good: bool, name: &str) -> Result<Words, SetupFault>
+pub(crate) fn accept(alloc: Global, good: bool, name: &str) -> Result<Words, SetupFault>
     ensures { Gives SetupFault.NoMemory result (accept good name.now) }
 {
     if good {

@@ -43,7 +43,7 @@ pub(crate) fn row_with<'a>(
 }
 
 /// The first name that isn't listed, in byte order.
-fn unlisted<'a>(members: &'a Map<String, Json>, names: &[&str]) -> Option<&'a str>
+pub(crate) fn unlisted<'a>(members: &'a Map<String, Json>, names: &[&str]) -> Option<&'a str>
     ensures { option_map (λ n. n.now) result ≡ unlisted (map (λ n. n.now) names.now) (members_view members.now.entries) }
 {
     for (name, _) in members.iter() {
@@ -93,7 +93,7 @@ pub(crate) fn optional<R: FieldReader>(
     }
 }
 
-fn member<'a>(members: &'a Map<String, Json>, name: &str) -> Option<&'a Json>
+pub(crate) fn member<'a>(members: &'a Map<String, Json>, name: &str) -> Option<&'a Json>
     ensures { option_map (λ v. view v.now) result ≡ get_member name.now (members_view members.now.entries) }
 {
     members.get(name)
