@@ -1,7 +1,7 @@
 -- Lists: what a filter keeps, and lists in order.
 use Rattle.std.proofs.Common.{◌≡◌, ◌≢◌, zero, suc, Bool, true, false, cond, List, [], ◌∷◌, filter, map, refl, sym, ap, subst, ◌∙◌, ◌⊎◌, inl, inr, arith}
 use Rattle.std.proofs.lemmas.List.Elements.{All-contains, All-from_recursion}
-use Rattle.std.specs.List.{AllByRecursion, Contains}
+use Rattle.std.specs.List.{AllByRecursion, Contains, IsDistinct}
 use Rattle.std.specs.List.Sorted.{IsStrictlySortedBy}
 use Rattle.std.specs.declared.cmp.Ordering.{Ordering}
 use Rattle.std.specs.declared.cmp.Ordering.TheVariants.{Less}
@@ -114,7 +114,7 @@ still_rising c d (x ∷ xs) more s = (
 )
 
 -- a list in an order of what f gives, and what f gives in that order
-all_mapped : {X Y : Type 0} (f : X → Y) (P : Y → Type 0) (xs : List X) → AllByRecursion (λ x. P (f x)) xs → AllByRecursion P (map f xs)
+pub all_mapped : {X Y : Type 0} (f : X → Y) (P : Y → Type 0) (xs : List X) → AllByRecursion (λ x. P (f x)) xs → AllByRecursion P (map f xs)
 all_mapped f P [] all = tt
 all_mapped f P (x ∷ xs) all = (all.0, all_mapped f P xs all.1)
 
@@ -131,3 +131,13 @@ pub rising_unmap : {X Y : Type 0} (f : X → Y) (c : Y → Y → Ordering) (xs :
 unfolding IsStrictlySortedBy
 rising_unmap f c [] s = tt
 rising_unmap f c (x ∷ xs) s = (all_unmapped f (λ y. c (f x) y ≡ Less) xs s.0, rising_unmap f c xs s.1)
+
+-- a list in strict order, whose members f tells apart, gives a list without repeats
+pub distinct_map : {X K : Type 0} (f : X → K) (e : K → K → Bool) (c : X → X → Ordering) (xs : List X) → ((x y : X) → Contains xs x → Contains xs y → c x y ≡ Less → e (f x) (f y) ≡ false)
+    → IsStrictlySortedBy c xs → IsDistinct e (map f xs)
+unfolding IsStrictlySortedBy IsDistinct
+distinct_map f e c [] apart s = tt
+distinct_map f e c (x ∷ xs) apart s = (
+  all_mapped f (λ k. e (f x) k ≡ false) xs (all_more (λ y. c x y ≡ Less) (λ y. e (f x) (f y) ≡ false) xs (λ y there. apart x y (first_there x xs) (later_there x xs y there)) s.0),
+  distinct_map f e c xs (λ y z there here. apart y z (later_there x xs y there) (later_there x xs z here)) s.1,
+)

@@ -1,5 +1,15 @@
+pub mod Answer
 pub mod Bag
+pub mod Doings
+pub mod Entries
+pub mod Findings
 pub mod Laws
+pub mod Licence
 pub mod Marks
+pub mod OrderLaws
+pub mod Orders
 pub mod PlaceOrder
 pub mod Placement
+pub mod Runs
+pub mod Seats
+pub mod States

@@ -1,6 +1,8 @@
 //! Laws of the collection, each a contract of a function that does nothing.
 
+ghost use Rattle.resh_model.specs.Findings.{DoingsFind};
 ghost use Rattle.resh_model.specs.Laws.{KeepsAll, NoClashInPlace, OpensPlaced, OpensWhole, PartsRise, PutsOne, RemovesOne, SameByPlace};
+ghost use Rattle.resh_model.specs.OrderLaws.{AnswersEachOnce, AnswersOne, AsksEachOnce, DropLeaves, DropsAtOnce, DropsOnlyThere, HasOneEnd, HasOneMark, HasTurnForEach, HoldingsKeepAll, HoldingsRise, RefusedLeave, RepliesLeaveBag, RunsAreLawful, StaysPlaced, SwitchKeeps};
 
 /// A bag is what stands at its places, and puts and removals act place by place.
 pub fn bag_laws()
@@ -25,4 +27,57 @@ pub fn placement_keeps_all()
 pub fn parts_rise()
     ensures own_map { NoClashInPlace }
     ensures rise { PartsRise }
+{}
+
+/// An order has one end; the state after it is a function of the setup and the order.
+pub fn orders_are_functions()
+    ensures { HasOneEnd }
+{}
+
+/// In a lawful order each client's commands are asked once each, in their order, and each is answered.
+pub fn orders_serve_each_once()
+    ensures asked { AsksEachOnce }
+    ensures turns { HasTurnForEach }
+    ensures answered { AnswersEachOnce }
+    ensures one { AnswersOne }
+{}
+
+/// One mark stands in a lawful order, the one of its end. An accepted abort is followed at once by its drop, which stands
+/// nowhere else.
+pub fn orders_have_one_mark()
+    ensures mark { HasOneMark }
+    ensures at_once { DropsAtOnce }
+    ensures only_there { DropsOnlyThere }
+{}
+
+/// What a command has found where it does more than say a reply: an insert a free place, an update and a delete the
+/// document that their filter names, and an update's result a place that is its own or free.
+pub fn doings_find()
+    ensures { DoingsFind }
+{}
+
+/// The collection changes only where the reply is `Inserted`, `Matched` or `Deleted`, and a refused turn changes only
+/// the replies.
+pub fn replies_leave_the_bag()
+    ensures replies { RepliesLeaveBag }
+    ensures refused { RefusedLeave }
+{}
+
+/// A drop leaves the collection, and a switch keeps each of its documents.
+pub fn marks_keep_the_documents()
+    ensures drop { DropLeaves }
+    ensures switch { SwitchKeeps }
+{}
+
+/// Each document stands where the map in force places it, so no shard holds an `_id` twice, and together the shards hold
+/// each document once.
+pub fn walks_stay_placed()
+    ensures placed { StaysPlaced }
+    ensures rise { HoldingsRise }
+    ensures whole { HoldingsKeepAll }
+{}
+
+/// A run without clients is a lawful order of one mark.
+pub fn runs_are_lawful()
+    ensures { RunsAreLawful }
 {}
