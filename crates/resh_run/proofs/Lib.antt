@@ -1,8 +1,4 @@
 mod Meant
 mod Outcomes
-pub mod PlacementClash
-pub mod PlacementHandOut
+pub mod Pages
 pub mod PlacementPlaces
-pub mod PlacementRun
-pub mod PlacementSeats
-pub mod PlacementSorted

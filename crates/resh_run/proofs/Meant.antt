@@ -9,13 +9,13 @@ use Rattle.resh_setup.specs.declared.setup.Setup.{Setup}
 use Rattle.resh_setup.specs.declared.turn.Turn.{Turn}
 use Rattle.resh_setup.specs.declared.fault.SetupFault.{SetupFault}
 use Rattle.resh_setup.specs.declared.fault.SetupFault.TheVariants as InSetup
-use Rattle.resh_chunks.specs.Chunks.{Chunks}
-use Rattle.resh_model.specs.Bag.{Bag, Document}
 use Rattle.resh_model.specs.Placement.{HasNoClash, IsFirstClash}
-use Rattle.resh_model.specs.Marks.{bag_of, IsRun, switched, dropped}
+use Rattle.resh_model.specs.Marks.{bag_of}
+use Rattle.resh_model.specs.Licence.{HasLicence}
+use Rattle.resh_model.specs.Runs.{IsMarked, switched, dropped}
 use Rattle.resh_config.specs.ClusterFile.{IsSetup, IsRefused}
-use Rattle.resh_report.specs.Page.{page_text, refusal_text}
-use Rattle.resh_run.specs.Top.{Means, usage, read_fault, too_long, refused, not_built, ran, no_memory, IsSent, whole, cut, is_plain, input_limit, status_of}
+use Rattle.resh_report.specs.Refusals.{refusal_text}
+use Rattle.resh_run.specs.Top.{Means, usage, read_fault, too_long, refused, not_built, ran, no_memory, IsSent, whole, cut, is_plain, input_limit, is_unbuilt, status_of}
 use Rattle.resh_run.specs.Said.{IsSaid, BytesSay, FaultSays, ReadSays, IsPage}
 use Rattle.resh_run.specs.Answer.{meant_by, order_in, end_in, text_in}
 use Rattle.resh_run.specs.Promises.{IsRunOf, IsFed}
@@ -31,6 +31,11 @@ fault_bytes bytes fault NotBuilt is h = absurd h
 fault_bytes bytes fault NoMemory is h = tt
 fault_bytes bytes fault (Refused text) is h = (fault, is h.0, h.1)
 fault_bytes bytes fault (Ran order end page) is h = absurd h
+
+-- neither a switch nor a clash wants a licence
+licensed : (setup : Setup) (order : List Turn) (ended : End) → IsMarked setup order ended → HasLicence [] (λ who. 0) ended
+licensed setup order ended (switched n o e) = subst (HasLicence [] (λ who. 0)) (sym e) tt
+licensed setup order ended (dropped shard id first o e) = subst (HasLicence [] (λ who. 0)) (sym e) tt
 
 -- one byte more than the limit isn't there
 pub not_short : (old new : Option (List ℕ)) (bytes : List ℕ) → old ≡ Some bytes → length bytes ≤ input_limit → GivesFirst old new (input_limit + 1) → ⊥
@@ -49,7 +54,7 @@ module _ (words : List (String Global)) (old new : Option (List ℕ)) (faults_ol
   means NoMemory h = no_memory h refl refl refl refl
   means (Refused text) h = refused h.1.bytes h.1.says.0 h.0 h.1.within h.1.all h.1.says.1 refl refl refl h.1.says.2
   means (Ran order end page) h =
-      ran h.1.bytes h.1.says.0 end h.1.says.2.holdings h.0 h.1.within h.1.all h.1.says.1 h.1.says.2.built h.1.says.2.run refl refl h.1.says.2.text
+      ran h.1.bytes h.1.says.0 end h.0 h.1.within h.1.all h.1.says.1 h.1.says.2.built h.1.says.2.marked h.1.says.2.lawful refl refl h.1.says.2.text
 
   module _ (meant : ℕ) (order : List Turn) (end : Option End) (text : List ℕ) where
     abbrev Meant : Type 0
@@ -62,10 +67,10 @@ module _ (words : List (String Global)) (old new : Option (List ℕ)) (faults_ol
     runs bytes setup told is low (too_long p g m o e t) = absurd (omega arith)
     runs bytes setup told is low (refused b f p s g r m o e t) = absurd (omega arith)
     runs bytes setup told is low (not_built b s' p s g i u m o e t) = absurd (omega arith)
-    runs bytes setup told is low (ran b s' ended holdings p s g i u run m e t) =
+    runs bytes setup told is low (ran b s' ended p s g i u mark law m e t) =
         let same_bytes : b ≡ bytes = given_told old new bytes b told g in
         let same : s' ≡ setup = one_setup bytes s' setup (subst (λ x. IsSetup x s') same_bytes i) is in
-        subst (λ x. IsRunOf x order end meant text) same (record { ended = ended; holdings = holdings; run = run; end_is = e; meant_is = m; page_is = t })
+        subst (λ x. IsRunOf x order end meant text) same (record { ended = ended; lawful = law; marked = mark; licensed = licensed s' order ended mark; end_is = e; meant_is = m; page_is = t })
     runs bytes setup told is low (no_memory p m o e t) = absurd (omega arith)
 
     -- bytes that are refused are refused with their fault
@@ -79,7 +84,7 @@ module _ (words : List (String Global)) (old new : Option (List ℕ)) (faults_ol
         inr (m, t ∙ ap refusal_text (one_fault bytes f fault (subst (λ x. IsRefused x f) same_bytes r) is))
     refuses bytes fault fed is (not_built b s' p s g i u m o e t) =
         absurd (not_both bytes s' fault (subst (λ x. IsSetup x s') (given_told old new bytes b fed.told g) i) is)
-    refuses bytes fault fed is (ran b s' ended holdings p s g i u run m e t) =
+    refuses bytes fault fed is (ran b s' ended p s g i u mark law m e t) =
         absurd (not_both bytes s' fault (subst (λ x. IsSetup x s') (given_told old new bytes b fed.told g) i) is)
     refuses bytes fault fed is (no_memory p m o e t) = inl m
 
@@ -98,13 +103,12 @@ meant_of words old new faults_old faults_new said meant order end m o e h =
     (means words old new faults_old faults_new said h)))
 
 -- a run without a clash commits
-committed : (old_map new_map : Chunks) (bag : Bag) (order : List Turn) (ended : End) (holdings : List (List Document)) → HasNoClash new_map bag
-    → IsRun old_map new_map bag order ended holdings → ended ≡ Committed
-committed old_map new_map bag order ended holdings none (switched n o e h) = e
-committed old_map new_map bag order ended holdings none (dropped shard id first o e h) = absurd (none shard id first.clash)
+committed : (setup : Setup) (order : List Turn) (ended : End) → HasNoClash setup.new_map (bag_of setup) → IsMarked setup order ended → ended ≡ Committed
+committed setup order ended none (switched n o e) = e
+committed setup order ended none (dropped shard id first o e) = absurd (none shard id first.clash)
 
 module _ (words : List (String Global)) (old new : Option (List ℕ)) (faults_old faults_new : ℕ) (meant : ℕ) (order : List Turn) (end : Option End) (text : List ℕ) where
-  pub commits : (bytes : List ℕ) (setup : Setup) → IsFed words old faults_old faults_new bytes → IsSetup bytes setup → setup.unbuilt ≡ false
+  pub commits : (bytes : List ℕ) (setup : Setup) → IsFed words old faults_old faults_new bytes → IsSetup bytes setup → is_unbuilt setup ≡ false
       → HasNoClash setup.new_map (bag_of setup) → Means words old new faults_old faults_new meant order end text → (meant ≡ 0) ⊎ (meant ≡ 6)
   commits bytes setup fed is built none (usage p m o e t) = let clash : true ≡ false = sym fed.plain ∙ p in cc
   commits bytes setup fed is built none (read_fault p r m o e t) = absurd (fed.calm r)
@@ -113,11 +117,10 @@ module _ (words : List (String Global)) (old new : Option (List ℕ)) (faults_ol
       absurd (not_both bytes setup f is (subst (λ x. IsRefused x f) (given_told old new bytes b fed.told g) r))
   commits bytes setup fed is built none (not_built b s' p s g i u m o e t) =
       let same : s' ≡ setup = one_setup bytes s' setup (subst (λ x. IsSetup x s') (given_told old new bytes b fed.told g) i) is in
-      let clash : true ≡ false = sym u ∙ ap (λ x. x.unbuilt) same ∙ built in cc
-  commits bytes setup fed is built none (ran b s' ended holdings p s g i u run m e t) =
+      let clash : true ≡ false = sym u ∙ ap is_unbuilt same ∙ built in cc
+  commits bytes setup fed is built none (ran b s' ended p s g i u mark law m e t) =
       let same : s' ≡ setup = one_setup bytes s' setup (subst (λ x. IsSetup x s') (given_told old new bytes b fed.told g) i) is in
-      let run' : IsRun setup.old_map setup.new_map (bag_of setup) order ended holdings = subst (λ x. IsRun x.old_map x.new_map (bag_of x) order ended holdings) same run in
-      inl (m ∙ ap status_of (committed _ _ _ _ _ _ none run'))
+      inl (m ∙ ap status_of (committed setup order ended none (subst (λ x. IsMarked x order ended) same mark)))
   commits bytes setup fed is built none (no_memory p m o e t) = inr m
 
 pub status_sent : (old new : Option (List ℕ)) (faults_old faults_new : ℕ) (text : List ℕ) (meant status sent : ℕ) → ¬ Rose faults_old faults_new

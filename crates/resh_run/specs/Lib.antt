@@ -1,5 +1,4 @@
 pub mod Answer
 pub mod Promises
 pub mod Said
-pub mod Seats
 pub mod Top

@@ -8,27 +8,27 @@ use Rattle.resh_setup.specs.declared.setup.Setup.{Setup}
 use Rattle.resh_setup.specs.declared.turn.Turn.{Turn}
 use Rattle.resh_setup.specs.declared.fault.SetupFault.{SetupFault}
 use Rattle.resh_setup.specs.declared.fault.SetupFault.TheVariants as InSetup
-use Rattle.resh_model.specs.Bag.{Document}
-use Rattle.resh_model.specs.Marks.{bag_of, IsRun}
+use Rattle.resh_model.specs.Orders.{IsLawful}
+use Rattle.resh_model.specs.Runs.{page_of, IsMarked}
 use Rattle.resh_config.specs.ClusterFile.{IsSetup, IsRefused}
-use Rattle.resh_report.specs.Page.{page_text, refusal_text}
-use Rattle.resh_run.specs.Top.{is_plain, input_limit}
+use Rattle.resh_report.specs.Refusals.{refusal_text}
+use Rattle.resh_run.specs.Top.{is_plain, input_limit, is_unbuilt}
 use Rattle.resh_run.specs.declared.decision.Said.{Said}
 use Rattle.resh_run.specs.declared.decision.Said.TheVariants.{Usage, ReadFault, TooLong, NotBuilt, NoMemory, Refused, Ran}
 
 -- the page of a setup's run
 pub record IsPage (setup : Setup) (order : List Turn) (end : End) (page : List ℕ) : Type 0 where
-  pub built : setup.unbuilt ≡ false
-  pub holdings : List (List Document)
-  pub run : IsRun setup.old_map setup.new_map (bag_of setup) order end holdings
-  pub text : page ≡ page_text setup.shards order end holdings
+  pub built : is_unbuilt setup ≡ false
+  pub marked : IsMarked setup order end
+  pub lawful : IsLawful setup order end
+  pub text : page ≡ page_of setup order end
 
 -- what a setup comes to
 abbrev pub SetupSays : Setup → Said → Type 0
 SetupSays setup Usage = ⊥
 SetupSays setup ReadFault = ⊥
 SetupSays setup TooLong = ⊥
-SetupSays setup NotBuilt = setup.unbuilt ≡ true
+SetupSays setup NotBuilt = is_unbuilt setup ≡ true
 SetupSays setup NoMemory = Unit {0}
 SetupSays setup (Refused text) = ⊥
 SetupSays setup (Ran order end page) = IsPage setup order end page.items
@@ -48,7 +48,7 @@ abbrev pub BytesSay : List ℕ → Said → Type 0
 BytesSay bytes Usage = ⊥
 BytesSay bytes ReadFault = ⊥
 BytesSay bytes TooLong = ⊥
-BytesSay bytes NotBuilt = (setup : Setup) × IsSetup bytes setup × (setup.unbuilt ≡ true)
+BytesSay bytes NotBuilt = (setup : Setup) × IsSetup bytes setup × (is_unbuilt setup ≡ true)
 BytesSay bytes NoMemory = Unit {0}
 BytesSay bytes (Refused text) = (fault : SetupFault) × IsRefused bytes fault × (text.items ≡ refusal_text fault)
 BytesSay bytes (Ran order end page) = (setup : Setup) × IsSetup bytes setup × IsPage setup order end page.items

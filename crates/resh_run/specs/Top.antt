@@ -1,5 +1,5 @@
 -- What the top call answers: what it means to say, and what of it was written.
-use Rattle.std.specs.Prelude.{◌≡◌, ◌≢◌, ℕ, ◌+◌, ◌<◌, ◌≤◌, Bool, true, false, nat_eq, List, [], ◌∷◌, ◌++◌, length, map, take, codes, Option, Some, None, String, string_bytes}
+use Rattle.std.specs.Prelude.{◌≡◌, ◌≢◌, ℕ, ◌+◌, ◌<◌, ◌≤◌, Bool, true, false, ◌||◌, nat_eq, nat_lt, List, [], ◌∷◌, ◌++◌, length, map, take, codes, Option, Some, None, String, string_bytes}
 use Rattle.std.specs.declared.alloc.Global.{Global}
 use Rattle.std.specs.Cmp.Lexicographic.{pointwise}
 use Rattle.std.specs.Io.KnownBytes.{Appends}
@@ -10,10 +10,11 @@ use Rattle.resh_coord.specs.declared.cause.End.TheVariants.{Committed, Aborted}
 use Rattle.resh_setup.specs.declared.setup.Setup.{Setup}
 use Rattle.resh_setup.specs.declared.turn.Turn.{Turn}
 use Rattle.resh_setup.specs.declared.fault.SetupFault.{SetupFault}
-use Rattle.resh_model.specs.Bag.{Document}
-use Rattle.resh_model.specs.Marks.{bag_of, IsRun}
+use Rattle.resh_model.specs.Orders.{IsLawful}
+use Rattle.resh_model.specs.Runs.{page_of, IsMarked}
 use Rattle.resh_config.specs.ClusterFile.{IsSetup, IsRefused}
-use Rattle.resh_report.specs.Page.{line, page_text, refusal_text}
+use Rattle.resh_report.specs.Lines.{line}
+use Rattle.resh_report.specs.Refusals.{refusal_text}
 
 -- the words of the command line are `plain` alone
 abbrev pub is_plain : List (String Global) → Bool
@@ -38,6 +39,10 @@ read_fault_text = line (codes "read fault")
 abbrev pub no_memory_text : List ℕ
 no_memory_text = line (codes "no memory")
 
+-- clients, steps and a plan aren't built yet
+abbrev pub is_unbuilt : Setup → Bool
+is_unbuilt setup = nat_lt 0 (length setup.clients) || setup.unbuilt
+
 abbrev pub status_of : End → ℕ
 status_of Committed = 0
 status_of (Aborted cause) = 1
@@ -56,12 +61,12 @@ pub data Means (words : List (String Global)) (old new : Option (List ℕ)) (fau
       → IsRefused bytes fault → meant ≡ 3 → order ≡ [] → end ≡ None → text ≡ refusal_text fault
       → Means words old new faults_old faults_new meant order end text
   not_built : (bytes : List ℕ) (setup : Setup) → is_plain words ≡ true → length bytes ≤ input_limit → GivesAll old new bytes
-      → IsSetup bytes setup → setup.unbuilt ≡ true → meant ≡ 3 → order ≡ [] → end ≡ None → text ≡ not_built_text
+      → IsSetup bytes setup → is_unbuilt setup ≡ true → meant ≡ 3 → order ≡ [] → end ≡ None → text ≡ not_built_text
       → Means words old new faults_old faults_new meant order end text
-  ran : (bytes : List ℕ) (setup : Setup) (ended : End) (holdings : List (List Document)) → is_plain words ≡ true
-      → length bytes ≤ input_limit → GivesAll old new bytes → IsSetup bytes setup → setup.unbuilt ≡ false
-      → IsRun setup.old_map setup.new_map (bag_of setup) order ended holdings
-      → meant ≡ status_of ended → end ≡ Some ended → text ≡ page_text setup.shards order ended holdings
+  ran : (bytes : List ℕ) (setup : Setup) (ended : End) → is_plain words ≡ true
+      → length bytes ≤ input_limit → GivesAll old new bytes → IsSetup bytes setup → is_unbuilt setup ≡ false
+      → IsMarked setup order ended → IsLawful setup order ended
+      → meant ≡ status_of ended → end ≡ Some ended → text ≡ page_of setup order ended
       → Means words old new faults_old faults_new meant order end text
   no_memory : is_plain words ≡ true → meant ≡ 6 → order ≡ [] → end ≡ None → text ≡ no_memory_text
       → Means words old new faults_old faults_new meant order end text

@@ -3,12 +3,13 @@
 ghost use Rattle.resh_run.specs.Said.{IsSaid, BytesSay, FaultSays, SetupSays};
 ghost use Rattle.std.specs.Prelude.{◌≡◌, None, []};
 ghost use Rattle.resh_config.specs.ClusterFile.{first_same};
+ghost use Rattle.resh_run.specs.Top.{is_unbuilt};
 
-use crate::placement::run_of;
 use crate::words::are_plain;
 use resh_config::read_setup;
 use resh_coord::End;
 use resh_io::{ReadAllFault, Source, read_all};
+use resh_model::run_of;
 use resh_report::{page, refusal};
 use resh_setup::{Setup, SetupFault, Turns};
 use resh_value::{NoMemory, Sequence};
@@ -73,16 +74,30 @@ fn fault_says(alloc: Global, fault: &SetupFault) -> Said
     }
 }
 
+/// Whether there is what isn't built yet: clients, steps or a plan.
+fn is_unbuilt(setup: &Setup) -> bool
+    ensures { result ≡ is_unbuilt setup.now }
+{
+    setup.clients.len() > 0 || setup.unbuilt
+}
+
 fn setup_says(alloc: Global, mut setup: Setup) -> Said
     requires { first_same setup.old_map [] setup.documents ≡ None }
     ensures { SetupSays setup result }
 {
-    if setup.unbuilt {
+    if is_unbuilt(&setup) {
         return Said::NotBuilt;
     }
     let documents = mem::replace(&mut setup.documents, Sequence::new(alloc));
     match run_of(alloc, &setup.old_map, &setup.new_map, documents) {
-        Ok(run) => match page(alloc, &setup, &run.order, &run.end, &run.holdings) {
+        Ok(run) => match page(
+            alloc,
+            &setup,
+            &run.order,
+            &run.end,
+            &Sequence::new(alloc),
+            &run.holdings,
+        ) {
             Ok(page) => Said::Ran {
                 order: run.order,
                 end: run.end,

@@ -2,11 +2,9 @@
 #![tactic(auto)]
 
 mod decision;
-mod placement;
-#[cfg(test)]
-mod placement_tests;
 mod plain;
-mod seat;
+#[cfg(test)]
+mod replay_tests;
 #[cfg(test)]
 mod tests;
 mod texts;

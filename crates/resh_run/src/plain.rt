@@ -5,8 +5,8 @@ ghost use Rattle.resh_setup.specs.declared.fault.SetupFault.{SetupFault};
 ghost use Rattle.resh_model.specs.Placement.{HasNoClash};
 ghost use Rattle.resh_model.specs.Marks.{bag_of};
 ghost use Rattle.resh_config.specs.ClusterFile.{IsSetup, IsRefused};
-ghost use Rattle.resh_report.specs.Page.{refusal_text};
-ghost use Rattle.resh_run.specs.Top.{Means, IsSent, is_plain, input_limit, too_long_text, not_built_text};
+ghost use Rattle.resh_report.specs.Refusals.{refusal_text};
+ghost use Rattle.resh_run.specs.Top.{Means, IsSent, is_plain, is_unbuilt, input_limit, too_long_text, not_built_text};
 ghost use Rattle.resh_run.specs.Promises.{IsRunOf, IsFed};
 ghost use Rattle.resh_run.specs.Answer.{meant_by, order_in, end_in, text_in};
 
@@ -57,7 +57,7 @@ pub fn plain_main<S: Source, K: Sink>(
         × IsSent (K.written sink.old) (K.written sink.new) (K.faults sink.old) (K.faults sink.new)
         (refusal_text fault) result.meant result.status result.sent) }
     ensures not_built { (bytes : List ℕ) (setup : Setup) → IsFed words.now (S.left source.old) (S.faults source.old) (S.faults source.new) bytes
-        → IsSetup bytes setup → setup.unbuilt ≡ true → (result.meant ≡ 6) ⊎ ((result.meant ≡ 3)
+        → IsSetup bytes setup → is_unbuilt setup ≡ true → (result.meant ≡ 6) ⊎ ((result.meant ≡ 3)
         × IsSent (K.written sink.old) (K.written sink.new) (K.faults sink.old) (K.faults sink.new)
         not_built_text result.meant result.status result.sent) }
     ensures too_long { (bytes : List ℕ) → is_plain words.now ≡ true → S.left source.old ≡ Some bytes → input_limit < length bytes
@@ -68,9 +68,9 @@ pub fn plain_main<S: Source, K: Sink>(
     ensures write_fault { result.status ≢ result.meant → (result.status ≡ 5) × Rose (K.faults sink.old) (K.faults sink.new) }
     ensures nothing_ran { 1 < result.meant → (result.order ≡ []) × (result.end ≡ None) }
     ensures complete { (bytes : List ℕ) (setup : Setup) → IsFed words.now (S.left source.old) (S.faults source.old) (S.faults source.new) bytes
-        → IsSetup bytes setup → setup.unbuilt ≡ false → (result.meant ≤ 1) ⊎ (result.meant ≡ 6) }
+        → IsSetup bytes setup → is_unbuilt setup ≡ false → (result.meant ≤ 1) ⊎ (result.meant ≡ 6) }
     ensures commits { (bytes : List ℕ) (setup : Setup) → IsFed words.now (S.left source.old) (S.faults source.old) (S.faults source.new) bytes
-        → IsSetup bytes setup → setup.unbuilt ≡ false → HasNoClash setup.new_map (bag_of setup)
+        → IsSetup bytes setup → is_unbuilt setup ≡ false → HasNoClash setup.new_map (bag_of setup)
         → ¬ Rose (K.faults sink.old) (K.faults sink.new) → (result.status ≡ 0) ⊎ (result.status ≡ 6) }
 {
     let said = decide(alloc, words, source);

@@ -1,0 +1,35 @@
+-- What a setup without clients has to say.
+use Rattle.std.proofs.Common.{◌≡◌, ℕ, Bool, true, false, List, [], ◌∷◌, length, refl, sym, ap, ◌∙◌, arith}
+use Rattle.std.specs.Prelude.{◌||◌, nat_lt}
+use Rattle.std.proofs.lemmas.Bool.{lt-ltb}
+use Rattle.resh_coord.specs.declared.cause.End.{End}
+use Rattle.resh_setup.specs.declared.client.Client.{Client}
+use Rattle.resh_setup.specs.declared.setup.Setup.{Setup}
+use Rattle.resh_setup.specs.declared.turn.Turn.{Turn}
+use Rattle.resh_report.specs.Page.{page_text}
+use Rattle.resh_model.specs.Bag.{Document}
+use Rattle.resh_model.specs.Marks.{bag_of, IsRun}
+use Rattle.resh_report.specs.Lines.{names_of}
+use Rattle.resh_model.proofs.OneMark.{one_marked, one_lawful, one_page}
+use Rattle.resh_run.specs.Top.{is_unbuilt}
+use Rattle.resh_run.specs.Said.{IsPage}
+
+no_clients : (clients : List Client) (b : Bool) → (nat_lt 0 (length clients) || b) ≡ false → clients ≡ []
+no_clients [] b e = refl
+no_clients (client ∷ more) b e = absurd (by (nat_lt 0 (length (client ∷ more))) (lt-ltb 0 (length (client ∷ more)) (omega arith)) e)
+  where
+    by : (a : Bool) → a ≡ true → (a || b) ≡ false → ⊥
+    by true is e = let clash : true ≡ false = e in cc
+    by false is e = let clash : false ≡ true = is in cc
+
+pub says_page : (setup : Setup) (order : List Turn) (end : End) (holdings : List (List Document)) (page : List ℕ) → is_unbuilt setup ≡ false
+    → IsRun setup.old_map setup.new_map (bag_of setup) order end holdings
+    → page ≡ page_text setup.shards (names_of setup.clients) order end [] holdings → IsPage setup order end page
+says_page setup order end holdings page built run is =
+    let none = no_clients setup.clients setup.unbuilt built in
+    record {
+      built = built;
+      marked = one_marked setup none order end holdings run;
+      lawful = one_lawful setup none order end holdings run;
+      text = is ∙ one_page setup none order end holdings run;
+    }

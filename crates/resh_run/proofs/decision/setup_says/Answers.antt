@@ -1,0 +1,12 @@
+use Rattle.std.proofs.Common.{sym, ap, ◌∙◌}
+use Rattle.resh_run.proofs.Pages.{says_page}
+use Rattle.resh_run.proofs.PlacementPlaces.{distinct_rows}
+use Rattle.resh_run.proofs.decision.setup_says.Goals as goal
+
+pub run_of-requires : goal.run_of-requires
+run_of-requires c = distinct_rows c.args.setup.old_map c.args.setup.documents c.requires
+
+pub returns-in-Ok-page : goal.returns-in-Ok-page
+returns-in-Ok-page c =
+    says_page c.args.setup c.in-Ok.run'.order c.in-Ok.run'.end c.in-Ok.run'.holdings c.in-Ok-page.page.items (sym c.is_unbuilt.ensures ∙ c.if-is_unbuilt.false)
+    (rw c.replace-documents.ensures.value at c.in-Ok.ensures) (rw c.new-in-Ok.ensures at c.in-Ok-page.ensures)

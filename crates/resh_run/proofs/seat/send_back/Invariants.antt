@@ -1,6 +1,0 @@
-use Rattle.std.proofs.Common.{◌≡◌, ◌++◌, map, take, drop}
-use Rattle.resh_run.specs.Seats.{sent_back}
-use Rattle.resh_run.proofs.seat.send_back.Given as goal
-
-abbrev pub invariant-loop-seat : goal.invariant-loop-seat
-invariant-loop-seat l = l.seats ≡ map sent_back (take l.seat-index l.initial.seats) ++ drop l.seat-index l.initial.seats
