@@ -78,6 +78,39 @@ mod tests {
         }
     }
 
+    // A command of each kind, by its number; `None` after the last.
+    fn command(alloc: Global, number: u64) -> Result<Option<Command>, Fail> {
+        match number {
+            0 => Ok(Some(Command::Insert(document(alloc)?))),
+            1 => Ok(Some(changed(alloc)?)),
+            2 => Ok(Some(Command::Delete {
+                filter: filter(alloc)?,
+            })),
+            3 => Ok(Some(Command::Find {
+                filter: filter(alloc)?,
+            })),
+            4 => Ok(Some(Command::Count {
+                filter: filter(alloc)?,
+            })),
+            5 => Ok(Some(Command::Abort)),
+            _ => Ok(None),
+        }
+    }
+
+    fn document(alloc: Global) -> Result<Document, NoMemory> {
+        let mut document = Document::new(alloc);
+        document.put(Words::of(alloc, "_id")?, Value::Int(1))?;
+        Ok(document)
+    }
+
+    fn changed(alloc: Global) -> Result<Command, Fail> {
+        let filter = filter(alloc)?;
+        Ok(Command::Update {
+            filter,
+            update: update(alloc)?,
+        })
+    }
+
     fn is_copied(alloc: Global, command: &Command) -> Result<bool, Fail> {
         let wanted = format!(in alloc; "{command:?}")?;
         let copied = format!(in alloc; "{:?}", command.copied(alloc)?)?;
@@ -87,27 +120,13 @@ mod tests {
     #[test]
     fn commands_are_copied(rt: HostRuntime) -> Result<(), Fail> {
         let alloc = rt.alloc();
-        let mut document = Document::new(alloc);
-        document.put(Words::of(alloc, "_id")?, Value::Int(1))?;
-        let changed = Command::Update {
-            filter: filter(alloc)?,
-            update: update(alloc)?,
-        };
-        let deleted = Command::Delete {
-            filter: filter(alloc)?,
-        };
-        let found = Command::Find {
-            filter: filter(alloc)?,
-        };
-        let counted = Command::Count {
-            filter: filter(alloc)?,
-        };
-        assert!(rt; is_copied(alloc, &Command::Insert(document))?);
-        assert!(rt; is_copied(alloc, &changed)?);
-        assert!(rt; is_copied(alloc, &deleted)?);
-        assert!(rt; is_copied(alloc, &found)?);
-        assert!(rt; is_copied(alloc, &counted)?);
-        assert!(rt; is_copied(alloc, &Command::Abort)?);
+        for number in 0..6u64 {
+            let Some(one) = command(alloc, number)? else {
+                return Err(Fail::from("no command"));
+            };
+            assert!(rt; is_copied(alloc, &one)?);
+        }
+        assert!(rt; command(alloc, 6)?.is_none());
         Ok(())
     }
 }
