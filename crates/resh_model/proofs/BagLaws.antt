@@ -5,7 +5,8 @@ use Rattle.std.specs.Cmp.{eq_by_cmp_equiv}
 use Rattle.std.specs.FinMap.{get, get-insert, get-remove, same_map}
 use Rattle.std.specs.Ordering.{eq_by_cmp}
 use Rattle.resh_value.specs.declared.value.Value.{Value}
-use Rattle.resh_model.specs.Bag.{id_of, place_cmp, held, put, without}
+use Rattle.resh_value.specs.Lookup.{id_of}
+use Rattle.resh_model.specs.Bag.{place_cmp, held, put, without}
 use Rattle.resh_model.specs.Laws.{PutsOne, RemovesOne, SameByPlace}
 use Rattle.resh_model.specs.PlaceOrder.{place_total, place_same}
 

@@ -12,7 +12,8 @@ use Rattle.resh_shard.specs.declared.command.Command.{Command}
 use Rattle.resh_shard.specs.declared.command.Command.TheVariants.{Insert, Update, Delete, Find, Count, Abort}
 use Rattle.resh_shard.specs.declared.reply.Reply.{Reply}
 use Rattle.resh_shard.specs.declared.reply.Reply.TheVariants.{Duplicate}
-use Rattle.resh_model.specs.Bag.{Bag, Document, id_of, held}
+use Rattle.resh_value.specs.Lookup.{id_of}
+use Rattle.resh_model.specs.Bag.{Bag, Document, held}
 use Rattle.resh_model.specs.Answer.{Doing, adds, replaces, removes, says, doing, insert_doing, result_doing, on_hit, has_key, hit, matching, with_key, text_limit}
 use Rattle.resh_model.specs.Findings.{IsHit, IsAdded, IsReplaced, IsRemoved, DoingsFind}
 

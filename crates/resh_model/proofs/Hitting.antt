@@ -3,7 +3,8 @@ use Rattle.std.proofs.Common.{◌≡◌, ℕ, true, false, cond, Option, Some, N
 use Rattle.resh_chunks.specs.Chunks.{Chunks, owner_of}
 use Rattle.resh_filter.specs.Filters.{matches}
 use Rattle.resh_shard.specs.declared.reply.Reply.TheVariants.{NoKey}
-use Rattle.resh_model.specs.Bag.{Bag, Document, id_of, held}
+use Rattle.resh_value.specs.Lookup.{id_of}
+use Rattle.resh_model.specs.Bag.{Bag, Document, held}
 use Rattle.resh_model.specs.Answer.{Doing, says, has_key, hit, matching, on_hit, with_key}
 
 module _ (chunks : Chunks) (bag : Bag) (filter : Document) where

@@ -15,7 +15,8 @@ use Rattle.resh_value.specs.Order.{compare_of}
 use Rattle.resh_value.specs.OrderLaws.{compare_same}
 use Rattle.resh_value.specs.declared.value.Value.{Value}
 use Rattle.resh_chunks.specs.Chunks.{Chunks, owner_of}
-use Rattle.resh_model.specs.Bag.{Bag, Document, id_of, place_cmp, place_of, held, documents, IsPlaced}
+use Rattle.resh_value.specs.Lookup.{id_of}
+use Rattle.resh_model.specs.Bag.{Bag, Document, place_cmp, place_of, held, documents, IsPlaced}
 use Rattle.resh_model.specs.Laws.{KeepsAll, NoClashInPlace, PartsRise}
 use Rattle.resh_model.specs.PlaceOrder.{place_total, place_same}
 use Rattle.resh_model.specs.Placement.{part}

@@ -14,7 +14,8 @@ use Rattle.resh_shard.specs.declared.command.Command.{Command}
 use Rattle.resh_setup.specs.declared.setup.Setup.{Setup}
 use Rattle.resh_setup.specs.declared.turn.Turn.{Turn}
 use Rattle.resh_setup.specs.declared.turn.Turn.TheVariants as turn
-use Rattle.resh_model.specs.Bag.{Bag, Document, id_of, place_cmp, place_of, held, put, without, documents, IsPlaced}
+use Rattle.resh_value.specs.Lookup.{id_of}
+use Rattle.resh_model.specs.Bag.{Bag, Document, place_cmp, place_of, held, put, without, documents, IsPlaced}
 use Rattle.resh_model.specs.Placement.{part}
 use Rattle.resh_model.specs.PlaceOrder.{place_total, place_same}
 use Rattle.resh_model.specs.Answer.{doing, bag_after}

@@ -19,7 +19,8 @@ use Rattle.resh_value.specs.Order.{compare_of}
 use Rattle.resh_value.specs.OrderLaws.{compare_same}
 use Rattle.resh_value.specs.declared.value.Value.{Value}
 use Rattle.resh_chunks.specs.Chunks.{Chunks, owner_of}
-use Rattle.resh_model.specs.Bag.{Bag, Document, id_of, held, opening_bag, HasDistinctPlaces, IsPlaced}
+use Rattle.resh_value.specs.Lookup.{id_of}
+use Rattle.resh_model.specs.Bag.{Bag, Document, held, opening_bag, HasDistinctPlaces, IsPlaced}
 use Rattle.resh_model.specs.Placement.{clash_cmp, IsClash, HasNoClash, IsFirstClash}
 use Rattle.resh_model.proofs.Lists.{mapped, unmapped}
 use Rattle.resh_model.proofs.Opening.{opens_placed}

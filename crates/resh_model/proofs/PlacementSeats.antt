@@ -14,7 +14,8 @@ use Rattle.std.specs.declared.cmp.Ordering.TheVariants.{Less, Equal, Greater}
 use Rattle.resh_value.specs.Order.{compare_of}
 use Rattle.resh_value.specs.declared.value.Value.{Value}
 use Rattle.resh_chunks.specs.Chunks.{Chunks, owner_of}
-use Rattle.resh_model.specs.Bag.{Bag, Document, id_of, place_cmp, place_of, documents, opening_bag, HasDistinctPlaces}
+use Rattle.resh_value.specs.Lookup.{id_of}
+use Rattle.resh_model.specs.Bag.{Bag, Document, place_cmp, place_of, documents, opening_bag, HasDistinctPlaces}
 use Rattle.resh_model.specs.PlaceOrder.{place_total}
 use Rattle.resh_model.specs.Placement.{part, parts}
 use Rattle.resh_model.proofs.Lists.{kept, was_there, same_sorted, still_rising, rising_map}

@@ -3,7 +3,8 @@ use Rattle.std.proofs.Common.{◌≡◌, ℕ, map, Option, Some, None, refl, sym
 use Rattle.std.proofs.lemmas.Map.Keys.{IsDistinct-from_sorted}
 use Rattle.resh_value.specs.declared.value.Value.{Value}
 use Rattle.resh_chunks.specs.Chunks.{Chunks, owner_of}
-use Rattle.resh_model.specs.Bag.{Bag, Document, id_of, place_cmp, place_of, held, documents, opening_bag, HasDistinctPlaces, IsPlaced}
+use Rattle.resh_value.specs.Lookup.{id_of}
+use Rattle.resh_model.specs.Bag.{Bag, Document, place_cmp, place_of, held, documents, opening_bag, HasDistinctPlaces, IsPlaced}
 use Rattle.resh_model.proofs.BagLaws.{same_by_place}
 use Rattle.resh_model.proofs.Lists.{rising_map}
 use Rattle.resh_model.proofs.Opening.{opens_placed, opens_whole}

@@ -2,7 +2,7 @@
 use Rattle.std.specs.Prelude.{ℕ, Bool, cond, not, ◌&&◌, ◌==◌, List, ◌∷◌, length, take, filter, codes, Option, Some, None, is_some, Result, Ok, Err}
 use Rattle.std.specs.List.{list_all}
 use Rattle.std.specs.Ordering.{is_eq}
-use Rattle.resh_value.specs.Lookup.{field_of}
+use Rattle.resh_value.specs.Lookup.{field_of, id_of}
 use Rattle.resh_value.specs.Order.{compare_documents}
 use Rattle.resh_chunks.specs.Chunks.{Chunks, owner_of}
 use Rattle.resh_filter.specs.Filters.{matches}
@@ -12,7 +12,7 @@ use Rattle.resh_shard.specs.declared.command.Command.{Command}
 use Rattle.resh_shard.specs.declared.command.Command.TheVariants.{Insert, Update, Delete, Find, Count, Abort}
 use Rattle.resh_shard.specs.declared.reply.Reply.{Reply}
 use Rattle.resh_shard.specs.declared.reply.Reply.TheVariants.{Inserted, Duplicate, Matched, NotFound, Deleted, Found, Counted, NoKey, Refused, AbortTooLate}
-use Rattle.resh_model.specs.Bag.{Bag, Document, id_of, held, put, without, documents}
+use Rattle.resh_model.specs.Bag.{Bag, Document, held, put, without, documents}
 
 -- what a command does: a document comes to a shard, one stands in the place of another, one goes, or nothing but a reply
 pub data Doing : Type 0 where

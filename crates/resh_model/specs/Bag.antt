@@ -1,19 +1,16 @@
 -- The collection: one bag of documents, each under its `_id` and the shard that owns it.
-use Rattle.std.specs.Prelude.{◌≡◌, ℕ, List, [], ◌∷◌, map, Option, Some, codes}
+use Rattle.std.specs.Prelude.{◌≡◌, ℕ, List, [], ◌∷◌, map, Option, Some}
 use Rattle.std.specs.FinMap.{FinMap, empty, get, insert, remove, values}
 use Rattle.std.specs.List.{IsDistinct}
 use Rattle.std.specs.Ordering.{nat_cmp, ordering_then, eq_by_cmp}
 use Rattle.std.specs.declared.cmp.Ordering.{Ordering}
 use Rattle.resh_value.specs.Order.{compare_of}
 use Rattle.resh_value.specs.declared.value.Value.{Value}
-use Rattle.resh_value.specs.Lookup.{value_under}
+use Rattle.resh_value.specs.Lookup.{id_of}
 use Rattle.resh_chunks.specs.Chunks.{Chunks, owner_of}
 
 abbrev pub Document : Type 0
 Document = List (List ℕ × Value)
-
-abbrev pub id_of : Document → Value
-id_of document = value_under document (codes "_id")
 
 -- places are ordered by `_id`, then by shard
 abbrev pub place_cmp : Value × ℕ → Value × ℕ → Ordering

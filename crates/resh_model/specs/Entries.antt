@@ -2,7 +2,8 @@
 use Rattle.std.specs.Prelude.{◌≡◌, ℕ, ◌<◌, ◌≤◌, T, List, length, map, slice_get, slice_set, insert, remove, Some, None}
 use Rattle.std.specs.FinMap.{from_sorted, is_sorted}
 use Rattle.resh_value.specs.declared.value.Value.{Value}
-use Rattle.resh_model.specs.Bag.{Bag, Document, id_of, place_cmp, held, put, without}
+use Rattle.resh_value.specs.Lookup.{id_of}
+use Rattle.resh_model.specs.Bag.{Bag, Document, place_cmp, held, put, without}
 use Rattle.resh_model.specs.declared.collection.Entry.{Entry}
 
 abbrev pub keyed : Entry → (Value × ℕ) × Document

@@ -6,7 +6,8 @@ use Rattle.resh_ops.specs.Updates.{updated}
 use Rattle.resh_ops.specs.declared.operator.Action.{Action}
 use Rattle.resh_shard.specs.declared.command.Command.{Command}
 use Rattle.resh_shard.specs.declared.command.Command.TheVariants.{Insert, Update, Delete}
-use Rattle.resh_model.specs.Bag.{Bag, Document, id_of, held}
+use Rattle.resh_value.specs.Lookup.{id_of}
+use Rattle.resh_model.specs.Bag.{Bag, Document, held}
 use Rattle.resh_model.specs.Answer.{adds, replaces, removes, doing, text_limit}
 
 -- the filter's document on the shard of its key

@@ -5,7 +5,8 @@ use Rattle.std.specs.List.Sorted.{IsPermutation, IsStrictlySortedBy}
 use Rattle.resh_value.specs.Order.{compare_of}
 use Rattle.resh_value.specs.declared.value.Value.{Value}
 use Rattle.resh_chunks.specs.Chunks.{Chunks, chunk_fault, owner_of}
-use Rattle.resh_model.specs.Bag.{Bag, Document, id_of, held, put, without, documents, opening_bag, HasDistinctPlaces, IsPlaced}
+use Rattle.resh_value.specs.Lookup.{id_of}
+use Rattle.resh_model.specs.Bag.{Bag, Document, held, put, without, documents, opening_bag, HasDistinctPlaces, IsPlaced}
 use Rattle.resh_model.specs.Placement.{part, parts, all_of, HasNoClash}
 
 -- a document that is put stands at its place, and every other place has what it had

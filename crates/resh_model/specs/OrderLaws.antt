@@ -14,7 +14,8 @@ use Rattle.resh_shard.specs.declared.reply.Reply.TheVariants.{Inserted, Duplicat
 use Rattle.resh_setup.specs.declared.setup.Setup.{Setup}
 use Rattle.resh_setup.specs.declared.turn.Turn.{Turn}
 use Rattle.resh_setup.specs.declared.turn.Turn.TheVariants as turn
-use Rattle.resh_model.specs.Bag.{Bag, Document, id_of, documents, IsPlaced}
+use Rattle.resh_value.specs.Lookup.{id_of}
+use Rattle.resh_model.specs.Bag.{Bag, Document, documents, IsPlaced}
 use Rattle.resh_model.specs.Placement.{parts, all_of, HasNoClash}
 use Rattle.resh_model.specs.Marks.{bag_of, IsRun}
 use Rattle.resh_model.specs.Answer.{doing, bag_after, reply_of}

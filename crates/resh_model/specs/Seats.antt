@@ -8,7 +8,8 @@ use Rattle.std.specs.declared.cmp.Ordering.{Ordering}
 use Rattle.resh_value.specs.OrderLaws.{compare_total}
 use Rattle.resh_value.specs.declared.value.Value.{Value}
 use Rattle.resh_chunks.specs.Chunks.{Chunks, owner_of}
-use Rattle.resh_model.specs.Bag.{Document, id_of}
+use Rattle.resh_value.specs.Lookup.{id_of}
+use Rattle.resh_model.specs.Bag.{Document}
 use Rattle.resh_model.specs.Placement.{clash_cmp}
 use Rattle.resh_model.specs.declared.seat.Seat.{Seat}
 

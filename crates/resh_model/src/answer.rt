@@ -3,11 +3,11 @@
 ghost use Rattle.std.specs.Prelude.{◌≡◌, ◌≢◌, ◌≤◌, Ok, Err, [], ◌∷◌, ◌++◌, length, take, filter, map, IfOk, IfErr, OnOk, OnErr};
 ghost use Rattle.std.specs.List.{list_all};
 ghost use Rattle.std.specs.Option.{option_copied, is_some};
-ghost use Rattle.resh_value.specs.Lookup.{field_of};
+ghost use Rattle.resh_value.specs.Lookup.{field_of, id_of};
 ghost use Rattle.resh_chunks.specs.Chunks.{owner_of};
 ghost use Rattle.resh_filter.specs.Filters.{matches};
 ghost use Rattle.resh_ops.specs.Updates.{updated};
-ghost use Rattle.resh_model.specs.Bag.{documents, held, id_of};
+ghost use Rattle.resh_model.specs.Bag.{documents, held};
 ghost use Rattle.resh_model.specs.Answer.{bag_after, doing, has_key, hit, insert_doing, matching_all, on_hit, removes, reply_of, result_doing, text_limit, with_key};
 ghost use Rattle.resh_model.specs.Doings.{meant};
 
@@ -16,8 +16,8 @@ use crate::identity::id_of;
 use resh_chunks::ChunkMap;
 use resh_filter::Filter;
 use resh_ops::{ChangeFault, Update};
-use resh_shard::{Command, Documents, Reply};
-use resh_value::{Document, NoMemory, Sequence, ShardId, Value, Words};
+use resh_shard::{Command, Reply};
+use resh_value::{Document, Documents, NoMemory, Sequence, ShardId, Value, Words};
 use std::alloc::Global;
 
 /// The longest text of a document, in bytes.

@@ -1,7 +1,8 @@
 //! The first clash that a collection would have by another map.
 
 ghost use Rattle.std.specs.Prelude.{◌≡◌, IfOk, MatchOption};
-ghost use Rattle.resh_model.specs.Bag.{IsPlaced, id_of};
+ghost use Rattle.resh_value.specs.Lookup.{id_of};
+ghost use Rattle.resh_model.specs.Bag.{IsPlaced};
 ghost use Rattle.resh_model.specs.Placement.{HasNoClash, IsFirstClash};
 
 use crate::collection::Collection;

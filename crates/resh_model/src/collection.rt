@@ -3,13 +3,13 @@
 ghost use Rattle.std.specs.Prelude.{◌≡◌, ◌+◌, ◌<◌, ◌≤◌, length, map, vec_len, vec_capacity, IsOk, IfOk, IfSome, OnOk, OnErr, MatchResult};
 ghost use Rattle.std.specs.FinMap.{empty};
 ghost use Rattle.std.specs.Option.{option_copied};
-ghost use Rattle.resh_model.specs.Bag.{id_of, place_cmp, held, put, without, documents, opening_bag};
+ghost use Rattle.resh_value.specs.Lookup.{id_of};
+ghost use Rattle.resh_model.specs.Bag.{place_cmp, held, put, without, documents, opening_bag};
 ghost use Rattle.resh_model.specs.Entries.{IsInOrder, gathered, StandsAt, GoesTo};
 
 use crate::identity::id_of;
 use resh_chunks::ChunkMap;
-use resh_shard::Documents;
-use resh_value::{Document, NoMemory, Sequence, ShardId, Value, compare};
+use resh_value::{Document, Documents, NoMemory, Sequence, ShardId, Value, compare};
 use std::alloc::Global;
 use std::cmp::Ordering;
 use std::marker::Model;

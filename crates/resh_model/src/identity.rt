@@ -2,7 +2,7 @@
 
 ghost use Rattle.std.specs.Prelude.{◌≡◌};
 ghost use Rattle.resh_value.specs.declared.value.Value.TheVariants.{Null};
-ghost use Rattle.resh_model.specs.Bag.{id_of};
+ghost use Rattle.resh_value.specs.Lookup.{id_of};
 
 use resh_value::{Document, Value};
 

@@ -2,7 +2,8 @@
 
 ghost use Rattle.std.specs.Prelude.{◌≡◌, None, Some, [], ◌∷◌, IfOk};
 ghost use Rattle.std.specs.List.Sorted.{IsSorted};
-ghost use Rattle.resh_model.specs.Bag.{HasDistinctPlaces, id_of, opening_bag};
+ghost use Rattle.resh_value.specs.Lookup.{id_of};
+ghost use Rattle.resh_model.specs.Bag.{HasDistinctPlaces, opening_bag};
 ghost use Rattle.resh_model.specs.Marks.{IsRun, clash_at};
 
 use crate::identity::id_of;
@@ -10,8 +11,7 @@ use crate::seat::{Seat, first_tie, hand_out, seats_back, seats_of};
 use resh_chunks::ChunkMap;
 use resh_coord::{Cause, End};
 use resh_setup::{Holdings, Turn, Turns};
-use resh_shard::Documents;
-use resh_value::{NoMemory, Sequence, Value};
+use resh_value::{Documents, NoMemory, Sequence, Value};
 use std::alloc::Global;
 
 /// The marks of a run, its end, and what each shard then holds.

@@ -10,8 +10,7 @@ use crate::placement::{Run, run_of};
 use resh_chunks::{Bound, ChunkMap, ChunkRow, KeyPattern};
 use resh_coord::{Cause, End};
 use resh_setup::Turn;
-use resh_shard::Documents;
-use resh_value::{Document, Fields, Sequence, ShardId, Value, Words, compare};
+use resh_value::{Document, Documents, Fields, Sequence, ShardId, Value, Words, compare};
 use std::alloc::Global;
 use std::test::Fail;
 

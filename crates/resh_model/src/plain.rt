@@ -17,8 +17,7 @@ use crate::state::{Fate, State};
 use resh_chunks::ChunkMap;
 use resh_report::page;
 use resh_setup::{Holdings, Setup, Turn, Turns};
-use resh_shard::Documents;
-use resh_value::{NoMemory, Sequence};
+use resh_value::{Documents, NoMemory, Sequence};
 use std::alloc::Global;
 
 /// Serves an order from its beginning; `None` exactly where it isn't lawful.

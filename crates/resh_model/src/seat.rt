@@ -10,8 +10,7 @@ ghost use Rattle.resh_model.specs.Seats.{target_cmp, seat_cmp, seat_total, sent_
 use crate::identity::id_of;
 use resh_chunks::ChunkMap;
 use resh_setup::Holdings;
-use resh_shard::Documents;
-use resh_value::{Document, NoMemory, Sequence, ShardId, Value, compare};
+use resh_value::{Document, Documents, NoMemory, Sequence, ShardId, Value, compare};
 use std::alloc::Global;
 use std::cmp::Ordering;
 

@@ -4,8 +4,8 @@ use resh_chunks::{Bound, ChunkMap, ChunkRow, KeyPattern};
 use resh_coord::{Cause, End, Node, Why};
 use resh_ops::ChangeFault;
 use resh_setup::{Answers, Client, Holdings, Setup, Turn, Turns};
-use resh_shard::{Documents, Reply};
-use resh_value::{Document, Names, Sequence, ShardId, Value, Words};
+use resh_shard::Reply;
+use resh_value::{Document, Documents, Names, Sequence, ShardId, Value, Words};
 use std::alloc::Global;
 use std::test::Fail;
 

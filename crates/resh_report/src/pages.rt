@@ -11,8 +11,7 @@ use crate::text::{append, append_line, append_line_feed, append_name, append_spa
 use crate::turns::append_turns;
 use resh_coord::End;
 use resh_setup::{Answers, Client, Holdings, Setup, Turns};
-use resh_shard::Documents;
-use resh_value::{Document, NoMemory, Words};
+use resh_value::{Document, Documents, NoMemory, Words};
 use std::alloc::Global;
 
 /// The page of a run: its turns in their order, each client's replies, each shard's documents, and its end. `replies`

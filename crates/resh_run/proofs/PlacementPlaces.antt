@@ -10,7 +10,8 @@ use Rattle.std.specs.declared.cmp.Ordering.{Ordering}
 use Rattle.std.specs.declared.cmp.Ordering.TheVariants.{Less, Equal, Greater}
 use Rattle.resh_value.specs.Order.{compare_of}
 use Rattle.resh_chunks.specs.Chunks.{Chunks, owner_of}
-use Rattle.resh_model.specs.Bag.{Document, id_of, place_cmp, place_of, HasDistinctPlaces}
+use Rattle.resh_value.specs.Lookup.{id_of}
+use Rattle.resh_model.specs.Bag.{Document, place_cmp, place_of, HasDistinctPlaces}
 use Rattle.resh_model.specs.PlaceOrder.{place_total}
 use Rattle.resh_config.specs.ClusterFile.{first_same, same_place}
 

@@ -1,7 +1,6 @@
 use crate::client::Clients;
 use resh_chunks::ChunkMap;
-use resh_shard::Documents;
-use resh_value::{Names, Sequence};
+use resh_value::{Documents, Names, Sequence};
 
 /// The documents of each shard.
 pub type Holdings = Sequence<Documents>;

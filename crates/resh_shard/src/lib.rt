@@ -5,4 +5,4 @@ mod command;
 mod reply;
 
 pub use command::{Command, Commands};
-pub use reply::{Documents, Replies, Reply};
+pub use reply::{Replies, Reply};

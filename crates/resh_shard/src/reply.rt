@@ -1,11 +1,8 @@
 ghost use Rattle.std.specs.Prelude.{◌≡◌, IfOk};
 
 use resh_ops::ChangeFault;
-use resh_value::{Copied, Document, NoMemory, Sequence};
+use resh_value::{Copied, Documents, NoMemory, Sequence};
 use std::alloc::Global;
-
-/// A list of documents.
-pub type Documents = Sequence<Document>;
 
 /// What a client is answered.
 #[derive(Debug, Drop)]
@@ -66,7 +63,7 @@ impl Copied for Reply {
 #[cfg(test)]
 mod tests {
     use super::*;
-    use resh_value::{Value, Words};
+    use resh_value::{Document, Value, Words};
     use std::test::Fail;
 
     // A reply of each kind, by its number; `None` after the last.

@@ -1,5 +1,5 @@
 -- A change of top-level fields.
-use Rattle.std.specs.Prelude.{ℕ, Bool, true, false, List, [], ◌∷◌, Option, Some, None, is_none}
+use Rattle.std.specs.Prelude.{ℕ, Bool, true, false, ◌||◌, List, [], ◌∷◌, Option, Some, None, is_none, is_some}
 use Rattle.std.specs.BTreeMap.{is_at}
 use Rattle.std.specs.List.{list_all, list_any}
 use Rattle.resh_value.specs.Names.{name_cmp}
@@ -26,6 +26,10 @@ are_apart assign unset = list_all (λ name. is_none (field_of assign name)) unse
 -- the name is one of these
 abbrev pub is_among : List (List ℕ) → List ℕ → Bool
 is_among names name = list_any (is_at (name_cmp name)) names
+
+-- a change assigns or unsets the name
+abbrev pub is_named : {X : Type 0} → List (List ℕ × X) → List (List ℕ) → List ℕ → Bool
+is_named assign unset name = is_some (field_of assign name) || is_among unset name
 
 -- what a change makes of one field: from what it assigns there, whether it unsets it, and what stood there
 abbrev pub changed_value : {X : Type 0} → Option X → Bool → Option X → Option X

@@ -1,5 +1,5 @@
 -- A document's fields by name.
-use Rattle.std.specs.Prelude.{◌≡◌, ℕ, ◌<◌, ◌≤◌, List, Option, Some, None, length, slice_get, slice_set, insert, remove, unwrap_or}
+use Rattle.std.specs.Prelude.{◌≡◌, ℕ, Bool, ◌<◌, ◌≤◌, List, Option, Some, None, length, slice_get, slice_set, insert, remove, unwrap_or, is_some, codes}
 use Rattle.std.specs.BTreeMap.{is_at, insert_entry}
 use Rattle.std.specs.Map.{lookup, remove_entry}
 use Rattle.resh_value.specs.Names.{name_cmp, HasRisingNames}
@@ -13,6 +13,13 @@ field_of fields name = lookup (is_at (name_cmp name)) fields
 -- what a document has under a name, null where it has nothing
 abbrev pub value_under : List (List ℕ × Value) → List ℕ → Value
 value_under document name = unwrap_or (field_of document name) Null
+
+-- the value under `_id`, by which a document is known on its shard; null where it has none
+abbrev pub id_of : List (List ℕ × Value) → Value
+id_of document = value_under document (codes "_id")
+
+abbrev pub has_id : List (List ℕ × Value) → Bool
+has_id document = is_some (field_of document (codes "_id"))
 
 -- the fields with a value under a name, in its place or new
 abbrev pub with_field : {X : Type 0} → List (List ℕ × X) → List ℕ → X → List (List ℕ × X)

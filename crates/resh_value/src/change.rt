@@ -1,11 +1,12 @@
 //! Changes of a document's top-level fields.
 
 ghost use Rattle.std.specs.Prelude.{◌≡◌, IsTrue, false, OnOk, OnErr, IfOk, IfSome, IfNone};
-ghost use Rattle.resh_value.specs.Change.{changed};
+ghost use Rattle.resh_value.specs.Change.{changed, is_among, is_named};
 
 use crate::fields::Fields;
 use crate::memory::NoMemory;
 use crate::value::{Document, Names, Value};
+use crate::words::Words;
 use std::alloc::Global;
 
 /// Values that top-level fields get, and the names of the fields that go. No name is in both.
@@ -31,6 +32,13 @@ impl Change {
         }
     }
 
+    /// Whether the change assigns or unsets the field of a name.
+    pub fn names(&self, name: &Words) -> bool
+        ensures { result ≡ is_named self.now.assign self.now.unset name.now }
+    {
+        self.assign.get(name).is_some() || is_among(&self.unset, name)
+    }
+
     /// A change with the same values and names, each on its own allocator.
     pub fn copy(&self, _alloc: Global) -> Result<Change, NoMemory>
         ensures { IfOk result (λ change. change ≡ self.now) }
@@ -52,6 +60,12 @@ impl Fields<Value> {
     }
 }
 
+fn is_among(names: &Names, name: &Words) -> bool
+    ensures { result ≡ is_among names.now name.now }
+{
+    names.as_slice().iter().any(|other| name.cmp(other).is_eq())
+}
+
 fn have_no_common_name(assign: &Document, unset: &Names) -> bool
     ensures { result ≡ are_apart assign.now unset.now }
 {
@@ -65,7 +79,6 @@ fn have_no_common_name(assign: &Document, unset: &Names) -> bool
 mod tests {
     use super::*;
     use crate::Copied;
-    use crate::words::Words;
     use std::test::Fail;
 
     // These names, each with the same value.
@@ -94,6 +107,19 @@ mod tests {
             text.push_str(pair.as_str())?;
         }
         Ok(text)
+    }
+
+    #[test]
+    fn names_what_it_assigns_or_unsets(rt: HostRuntime) -> Result<(), Fail> {
+        let alloc = rt.alloc();
+        let Some(change) = Change::new(document(alloc, "a b", 1)?, list(alloc, "c")?) else {
+            return Err(Fail::from("no change"));
+        };
+        for (name, named) in [("a", true), ("b", true), ("c", true), ("ab", false)] {
+            let name = Words::of(alloc, name)?;
+            assert_eq!(rt; change.names(&name), named);
+        }
+        Ok(())
     }
 
     #[test]

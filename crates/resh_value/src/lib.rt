@@ -8,6 +8,7 @@ mod fault;
 mod fields;
 mod from_json;
 mod hash;
+mod identity;
 #[cfg(test)]
 mod json_tests;
 mod laws;
@@ -34,5 +35,5 @@ pub use order::compare;
 pub use paths::{path_to_name, path_to_place};
 pub use sequence::Sequence;
 pub use text::append_quoted;
-pub use value::{Document, Items, Names, ShardId, Value};
+pub use value::{Document, Documents, Items, Names, ShardId, Value};
 pub use words::Words;

@@ -21,6 +21,8 @@ pub enum Value {
 
 /// A document: values under rising names.
 pub type Document = Fields<Value>;
+/// A list of documents.
+pub type Documents = Sequence<Document>;
 /// An array's values.
 pub type Items = Sequence<Value>;
 /// A list of names.
