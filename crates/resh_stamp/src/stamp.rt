@@ -37,7 +37,7 @@ impl Stamp {
     pub fn compare(&self, other: &Stamp) -> Ordering
         ensures { result ≡ stamp_cmp self.now other.now }
     {
-        self.time.cmp(&other.time).then(self.node.cmp(&other.node))
+        self.cmp(other)
     }
 }
 
