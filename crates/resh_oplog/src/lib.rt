@@ -1,0 +1,10 @@
+//! The operation log of a shard: what its writes were, in order, and to which recipient each is destined.
+#![tactic(auto)]
+
+mod entry;
+mod log;
+mod piece;
+
+pub use entry::{Entries, Entry, What};
+pub use log::Log;
+pub use piece::{Cloned, Piece};
