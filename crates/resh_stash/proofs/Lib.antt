@@ -1,0 +1,3 @@
+mod Gathered
+mod InOrder
+mod Least
