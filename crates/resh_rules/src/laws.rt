@@ -1,0 +1,5 @@
+//! Laws of the rules, each a contract of a function that does nothing.
+
+/// Whatever is held of an `_id` stands for slots, and an insert sets the slot of its donor, an update changes it where it
+/// is filled, a delete empties it, and no other slot changes.
+pub fn rule_laws() {}
