@@ -1,0 +1,6 @@
+/// What a message does to a machine.
+#[derive(Debug, Drop, Clone, Copy, PartialEq, Eq)]
+pub enum Step {
+    Moved,
+    Same,
+}
