@@ -1,0 +1,197 @@
+-- What a map of chains files under each `_id`, and what it files after a write.
+use Rattle.std.proofs.Common.{◌≡◌, ◌≢◌, Bool, true, false, ◌&&◌, cond, T, List, [], ◌∷◌, ◌++◌, Option, Some, None, Bor, unwrap_or, IfSome, IsSome, refl, sym, ap, ◌∙◌, subst, Less}
+use Rattle.std.proofs.lemmas.Map.Views.{tells_apart}
+use Rattle.std.specs.BTreeMap as tree
+use Rattle.std.specs.BTreeMap.{BTreeMap, IsOrdered, Updates, WritesThrough, is_at}
+use Rattle.std.specs.Cmp.{eq_by_cmp_equiv}
+use Rattle.std.specs.FinMap.{empty, get, get-empty, find, insert, remove, from_sorted, is_sorted, get-from_sorted, get-insert, get-remove, same_map}
+use Rattle.std.specs.FinMap.Entries.{below_all}
+use Rattle.std.specs.List.{AllByRecursion}
+use Rattle.std.specs.List.Sorted.{IsStrictlySortedBy}
+use Rattle.std.specs.Map.{lookup, keys_of}
+use Rattle.std.specs.Option.{option_copied}
+use Rattle.std.specs.Ordering.{eq_by_cmp, is_lt}
+use Rattle.std.specs.declared.cmp.Ordering.{Ordering}
+use Rattle.resh_value.specs.Lookup.{id_of}
+use Rattle.resh_value.specs.Order.{compare_of}
+use Rattle.resh_value.specs.OrderLaws.{compare_total, compare_same}
+use Rattle.resh_value.specs.declared.value.Value.{Value}
+use Rattle.resh_versions.specs.Chains.{Chain, has_versions, without_newest}
+use Rattle.resh_versions.proofs.ChainLaws.{pushed_has, taken_has}
+use Rattle.resh_versions.specs.Standing.{Chains, IsChainOf, IsFiled, IsKept, chain_in, filed, pushed, popped, with_chain}
+use Rattle.resh_versions.specs.declared.version.Version.{Version}
+
+pub join : (a b : Bool) → T a → T b → T (a && b)
+join true b p q = q
+join false b p q = absurd p
+
+pub split : (a b : Bool) → T (a && b) → T a × T b
+split true b t = (tt, t)
+split false b t = absurd t
+
+module _ {K X : Type 0} (R : K → K → Ordering) where
+  all_below : (k : K) (es : List (K × X)) → AllByRecursion (λ y. R k y ≡ Less) (keys_of es) → T (below_all R k es)
+  all_below k [] a = tt
+  all_below k (e ∷ es) a = join _ _ (subst (λ r. T (is_lt r)) (sym a.0) tt) (all_below k es a.1)
+
+  -- entries whose keys rise are in order
+  pub in_order : (es : List (K × X)) → IsStrictlySortedBy R (keys_of es) → T (is_sorted R es)
+  unfolding IsStrictlySortedBy
+  in_order [] s = tt
+  in_order (e ∷ es) s = join _ _ (all_below e.0 es s.0) (in_order es s.1)
+
+  pub find_lookup : (q : K) (es : List (K × X)) → find R q es ≡ lookup (eq_by_cmp R q) es
+  find_lookup q [] = refl
+  find_lookup q (e ∷ es) = ap (cond (eq_by_cmp R q e.0) (Some e.1)) (find_lookup q es)
+
+abbrev pub Tree : Type 0
+Tree = BTreeMap Value Chain
+
+abbrev pub found : Tree → Value → Option Chain
+found m id = tree.get compare_of m id
+
+-- what the map finds is what it files
+pub get_filed : (m : Tree) (id : Value) → IsOrdered compare_of m → get (filed m) id ≡ found m id
+get_filed m id s = get-from_sorted compare_of m.entries id (in_order compare_of m.entries s) ∙ find_lookup compare_of id m.entries
+
+pub chain_in_filed : (m : Tree) (id : Value) (chain : Option Chain) → IsOrdered compare_of m → found m id ≡ chain → chain_in (filed m) id ≡ unwrap_or chain []
+chain_in_filed m id chain s is = ap (λ r. unwrap_or r []) (get_filed m id s ∙ is)
+
+pub same_chains : (a b : Chains) → ((id : Value) → get a id ≡ get b id) → a ≡ b
+same_chains a b is = same_map compare_total compare_same a b is
+
+filed_by : (m : Tree) (chains : Chains) → IsOrdered compare_of m → ((id : Value) → found m id ≡ get chains id) → filed m ≡ chains
+filed_by m chains s is = same_chains _ _ (λ id. get_filed m id s ∙ is id)
+
+abbrev pub AreChains : (Value → Option Chain) → Type 0
+AreChains f = (id : Value) (chain : Chain) → f id ≡ Some chain → IsChainOf id chain
+
+pub kept_by : (m : Tree) → IsOrdered compare_of m → AreChains (found m) → IsKept m
+kept_by m s are = record { ordered = s; filed = λ id chain is. are id chain (sym (get_filed m id s) ∙ is) }
+
+found_are : (m : Tree) → IsKept m → AreChains (found m)
+found_are m k id chain is = k.filed id chain (get_filed m id k.ordered ∙ is)
+
+pub turned : (id q : Value) → is_at (compare_of id) q ≡ eq_by_cmp compare_of q id
+turned id q = (eq_by_cmp_equiv compare_total).symm id q
+
+abbrev pub SetsAt : Value → Option Chain → (Value → Option Chain) → (Value → Option Chain) → Type 0
+SetsAt id w f g = (q : Value) → g q ≡ cond (is_at (compare_of id) q) w (f q)
+
+pub are_after : (id : Value) (w : Option Chain) (f g : Value → Option Chain) → SetsAt id w f g → AreChains f → ((chain : Chain) → w ≡ Some chain → IsChainOf id chain) → AreChains g
+are_after id w f g sets are new q chain is = by (is_at (compare_of id) q) refl
+  where
+    by : (b : Bool) → is_at (compare_of id) q ≡ b → IsChainOf q chain
+    by true e = subst (λ k. IsChainOf k chain) (tells_apart compare_same id q e) (new chain (sym (sets q ∙ ap (λ t. cond t w (f q)) e) ∙ is))
+    by false e = are q chain (sym (sets q ∙ ap (λ t. cond t w (f q)) e) ∙ is)
+
+-- the map with a chain written, in the place of what stood there or new
+pub written : (m n : Tree) (id : Value) (chain : Chain) → IsKept m → IsOrdered compare_of n → SetsAt id (Some chain) (found m) (found n) → IsChainOf id chain → (filed n ≡ insert (filed m) id chain) × IsKept n
+written m n id chain k s sets is = (
+  filed_by n _ s (λ q. sets q ∙ (λ i. cond (turned id q i) (Some chain) (sym (get_filed m q k.ordered) i)) ∙ sym (get-insert compare_total (filed m) id chain q)),
+  kept_by n s (are_after id (Some chain) (found m) (found n) sets (found_are m k) (λ c e. subst (IsChainOf id) (ap (λ r. unwrap_or r chain) e) is)),
+)
+
+-- the map with the chain of an `_id` taken out
+pub taken : (m n : Tree) (id : Value) → IsKept m → IsOrdered compare_of n → SetsAt id None (found m) (found n) → (filed n ≡ remove (filed m) id) × IsKept n
+taken m n id k s sets = (
+  filed_by n _ s (λ q. sets q ∙ (λ i. cond (turned id q i) None (sym (get_filed m q k.ordered) i)) ∙ sym (get-remove compare_total (filed m) id q)),
+  kept_by n s (are_after id None (found m) (found n) sets (found_are m k) (λ c e. cc)),
+)
+
+-- the map with the same entries
+pub same_entries : (m n : Tree) → IsKept m → n.entries ≡ m.entries → (filed n ≡ filed m) × IsKept n
+same_entries m n k is = (ap from_sorted is, kept_by n (subst (λ es. IsStrictlySortedBy compare_of (keys_of es)) (sym is) k.ordered) (λ id chain e. found_are m k id chain (sym (ap (lookup (is_at (compare_of id))) is) ∙ e)))
+
+-- what a chain with one more version has
+pub longer : (id : Value) (chain : Chain) (v : Version) → AllByRecursion (λ w. IfSome w.document (λ d. id_of d ≡ id)) chain → IfSome v.document (λ d. id_of d ≡ id) → IsChainOf id (chain ++ v ∷ [])
+longer id chain v named new = record { filled = never chain; named = pushed_has (λ d. id_of d ≡ id) chain v named new }
+  where
+    never : (c : Chain) → c ++ v ∷ [] ≢ []
+    never [] e = cc
+    never (w ∷ ws) e = cc
+
+-- the map after a version was put behind those of an `_id`, or was its first
+module _ (m n : Tree) (id : Value) (v : Version) (k : IsKept m) (named : IfSome v.document (λ d. id_of d ≡ id)) where
+  pub pushed_found : (chain left : Chain) → Some chain ≡ found m id → left ≡ chain ++ v ∷ [] → WritesThrough compare_of (compare_of id) m left n → (filed n ≡ pushed (filed m) id v) × IsKept n
+  pushed_found chain left is e w =
+      let r = written m n id left k w.4 (w.3 (some chain (sym is))).0 (subst (IsChainOf id) (sym e) (longer id chain v (found_are m k id chain (sym is)).named named)) in
+      (r.0 ∙ ap (insert (filed m) id) (e ∙ ap (λ c. c ++ v ∷ []) (sym (chain_in_filed m id (Some chain) k.ordered (sym is)))), r.1)
+    where
+      some : (c : Chain) → found m id ≡ Some c → IsSome (found m id)
+      some c e = subst IsSome (sym e) refl
+
+  pub pushed_new : (first : Chain) (o : Tree) → None ≡ found m id → first ≡ v ∷ [] → o ≡ m → IsOrdered compare_of n → Updates compare_of o n id (Some first) → (filed n ≡ pushed (filed m) id v) × IsKept n
+  pushed_new first o is e same s u =
+      let r = written m n id first k s (subst (λ t. SetsAt id (Some first) (found t) (found n)) same u.0) (subst (IsChainOf id) (sym e) (longer id [] v tt named)) in
+      (r.0 ∙ ap (insert (filed m) id) (e ∙ ap (λ c. c ++ v ∷ []) (sym (chain_in_filed m id None k.ordered (sym is)))), r.1)
+
+-- the map after the last version of an `_id` was taken out
+module _ (m n : Tree) (id : Value) (chain left : Chain) (k : IsKept m) (is : Some chain ≡ found m id) (shorter : left ≡ without_newest chain) (w : WritesThrough compare_of (compare_of id) m left n) where
+  some : IsSome (found m id)
+  some = subst IsSome is refl
+
+  with_left : popped (filed m) id ≡ with_chain (filed m) id left
+  with_left = ap (λ c. with_chain (filed m) id (without_newest c)) (chain_in_filed m id (Some chain) k.ordered (sym is)) ∙ ap (with_chain (filed m) id) (sym shorter)
+
+  left_named : AllByRecursion (λ v. IfSome v.document (λ d. id_of d ≡ id)) left
+  left_named = subst (AllByRecursion (λ (v : Version). IfSome v.document (λ d. id_of d ≡ id))) (sym shorter) (taken_has (λ d. id_of d ≡ id) _ chain (found_are m k id chain (sym is)).named)
+
+  pub popped_shorter : has_versions left ≡ true → (filed n ≡ popped (filed m) id) × IsKept n
+  popped_shorter filled =
+      let r = written m n id left k w.4 (w.3 some).0 (record { filled = never left filled; named = left_named }) in
+      (r.0 ∙ sym (with_left ∙ by left filled), r.1)
+    where
+      never : (c : Chain) → has_versions c ≡ true → c ≢ []
+      never [] has e = cc
+      never (v ∷ vs) has e = cc
+
+      by : (c : Chain) → has_versions c ≡ true → with_chain (filed m) id c ≡ insert (filed m) id c
+      by [] has = cc
+      by (v ∷ vs) has = refl
+
+  pub popped_gone : (o : Tree) → has_versions left ≡ false → IsOrdered compare_of o → SetsAt id None (found n) (found o) → (filed o ≡ popped (filed m) id) × IsKept o
+  popped_gone o none s sets =
+      let r = taken m o id k s (λ q. sets q ∙ ap (cond (is_at (compare_of id) q) None) ((w.3 some).0 q) ∙ twice (is_at (compare_of id) q) (found m q)) in
+      (r.0 ∙ sym (with_left ∙ ap (with_chain (filed m) id) (gone left none)), r.1)
+    where
+      gone : (c : Chain) → has_versions c ≡ false → c ≡ []
+      gone [] e = refl
+      gone (v ∷ vs) e = cc
+
+      twice : (b : Bool) (r : Option Chain) → cond b None (cond b (Some left) r) ≡ cond b None r
+      twice true r = refl
+      twice false r = refl
+
+pub popped_none : (m : Tree) (id : Value) → IsKept m → None ≡ found m id → filed m ≡ popped (filed m) id
+popped_none m id k is =
+    same_chains _ _ (λ q. by q (eq_by_cmp compare_of q id) refl ∙ sym (get-remove compare_total (filed m) id q)) ∙ sym (ap (λ c. with_chain (filed m) id (without_newest c)) (chain_in_filed m id None k.ordered (sym is)))
+  where
+    by : (q : Value) (b : Bool) → eq_by_cmp compare_of q id ≡ b → get (filed m) q ≡ cond (eq_by_cmp compare_of q id) None (get (filed m) q)
+    by q true e = ap (get (filed m)) (sym (tells_apart compare_same id q (turned id q ∙ e))) ∙ get_filed m id k.ordered ∙ sym is ∙ sym (ap (λ b. cond b None (get (filed m) q)) e)
+    by q false e = sym (ap (λ b. cond b None (get (filed m) q)) e)
+
+-- a map without entries keeps no chain
+pub kept_none : (m : Tree) → IsOrdered compare_of m → m.entries ≡ [] → (filed m ≡ empty) × IsKept m
+kept_none m s none = (
+  filed_by m empty s (λ id. nothing id ∙ sym (get-empty compare_of id)),
+  kept_by m s (λ id chain e. absurd (not_some chain (sym (nothing id) ∙ e))),
+)
+  where
+    nothing : (id : Value) → found m id ≡ None
+    nothing id = ap (lookup (is_at (compare_of id))) none
+
+    not_some : (chain : Chain) → None ≡ Some chain → ⊥
+    not_some chain e = cc
+
+-- the documents of a chain of an `_id` have it
+pub chain_named : (chains : Chains) (id : Value) → IsFiled chains → AllByRecursion (λ v. IfSome v.document (λ d. id_of d ≡ id)) (chain_in chains id)
+chain_named chains id are = by (get chains id) refl
+  where
+    by : (r : Option Chain) → get chains id ≡ r → AllByRecursion (λ v. IfSome v.document (λ d. id_of d ≡ id)) (unwrap_or r [])
+    by None e = tt
+    by (Some chain) e = (are id chain e).named
+
+pub found_chain : (m : Tree) (id : Value) → IsKept m → (r : Option (Bor Chain)) → option_copied r ≡ found m id → IfSome r (λ chain. IsChainOf id chain.now)
+found_chain m id k None is = tt
+found_chain m id k (Some chain) is = found_are m k id chain.now (sym is)

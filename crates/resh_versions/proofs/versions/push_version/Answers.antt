@@ -1,0 +1,42 @@
+use Rattle.std.proofs.lemmas.Map.Steps.{set_value_same}
+use Rattle.std.proofs.Common.{◌∙◌, ap, sym, rules}
+use Rattle.std.specs.BTreeMap.{is_at}
+use Rattle.std.specs.Map.{set_value}
+use Rattle.resh_value.specs.Order.{compare_of}
+use Rattle.resh_versions.proofs.Filing.{pushed_found, pushed_new, same_entries}
+use Rattle.resh_versions.proofs.versions.push_version.Goals as goal
+
+pub returns-in_err-push-clause-unchanged : goal.returns-in_err-push-clause-unchanged
+returns-in_err-push-clause-unchanged c =
+    let m = c.args.chains.now in
+    let test = is_at (compare_of c.args.id) in
+    let same = (c.get_mut.follows.holds c.push.new.self).0 ∙ ap (set_value test m.entries) c.in_err-push.ensures.unchanged ∙ set_value_same test m.entries c.in-Some.chain.now (sym c.in-Some.ensures.value) in
+    let stays = (same_entries m (c.get_mut.follows.lender c.push.new.self) c.requires.kept same).0 in
+    search rules
+
+pub returns-in_err-push-clause-kept : goal.returns-in_err-push-clause-kept
+returns-in_err-push-clause-kept c =
+    let m = c.args.chains.now in
+    let test = is_at (compare_of c.args.id) in
+    let same = (c.get_mut.follows.holds c.push.new.self).0 ∙ ap (set_value test m.entries) c.in_err-push.ensures.unchanged ∙ set_value_same test m.entries c.in-Some.chain.now (sym c.in-Some.ensures.value) in
+    (same_entries m (c.get_mut.follows.lender c.push.new.self) c.requires.kept same).1
+
+pub returns-in-Some-clause-ok : goal.returns-in-Some-clause-ok
+returns-in-Some-clause-ok c =
+    (pushed_found c.args.chains.now (c.get_mut.follows.lender c.push.new.self) c.args.id c.args.version c.requires.kept c.requires.named c.in-Some.chain.now c.push.new.self c.in-Some.ensures.value c.in_ok-push.ensures.ok (c.get_mut.follows.holds c.push.new.self)).0
+
+pub returns-in-Some-clause-kept : goal.returns-in-Some-clause-kept
+returns-in-Some-clause-kept c =
+    (pushed_found c.args.chains.now (c.get_mut.follows.lender c.push.new.self) c.args.id c.args.version c.requires.kept c.requires.named c.in-Some.chain.now c.push.new.self c.in-Some.ensures.value c.in_ok-push.ensures.ok (c.get_mut.follows.holds c.push.new.self)).1
+
+pub returns-in_err-insert-clause-kept : goal.returns-in_err-insert-clause-kept
+returns-in_err-insert-clause-kept c =
+    (same_entries c.args.chains.now c.insert.new.self c.requires.kept (c.in_err-insert.ensures.err ∙ ap (λ t. t.entries) c.get_mut.follows.holds-at-none)).1
+
+pub returns-clause-ok : goal.returns-clause-ok
+returns-clause-ok c =
+    (pushed_new c.args.chains.now c.insert.new.self c.args.id c.args.version c.requires.kept c.requires.named c.in_ok-of.field-0 c.get_mut.follows.lender-at-none c.in_default.ensures.value c.in_ok-of.ensures c.get_mut.follows.holds-at-none c.insert.ensures.ordered c.in_ok-insert.ensures.updates).0
+
+pub returns-clause-kept : goal.returns-clause-kept
+returns-clause-kept c =
+    (pushed_new c.args.chains.now c.insert.new.self c.args.id c.args.version c.requires.kept c.requires.named c.in_ok-of.field-0 c.get_mut.follows.lender-at-none c.in_default.ensures.value c.in_ok-of.ensures c.get_mut.follows.holds-at-none c.insert.ensures.ordered c.in_ok-insert.ensures.updates).1

@@ -1,0 +1,52 @@
+-- What writes and prunings keep.
+use Rattle.std.specs.Prelude.{◌≡◌, ◌≢◌, ◌≤◌, ◌<◌, ℕ, Option, Some, None, IfSome, true, map}
+use Rattle.std.specs.FinMap.{empty}
+use Rattle.std.specs.List.{AllByRecursion, Contains}
+use Rattle.std.specs.List.Sorted.{IsStrictlySortedBy}
+use Rattle.resh_value.specs.Lookup.{id_of}
+use Rattle.resh_value.specs.Order.{compare_of}
+use Rattle.resh_value.specs.declared.value.Value.{Value}
+use Rattle.resh_versions.specs.Chains.{Document}
+use Rattle.resh_versions.specs.Standing.{VersionsOf, IsFiled, IsUpTo, chain_of, at, now, is_above, standing_after, with_version, without_last, pruned}
+use Rattle.resh_versions.specs.declared.version.Version.{Version}
+
+-- nothing stands where there are no chains
+pub record StartsEmpty : Type 0 where
+  pub now : (floor : ℕ) (id : Value) → now (record { chains = empty; floor = floor }) id ≡ None
+  pub at : (floor time : ℕ) (id : Value) → at (record { chains = empty; floor = floor }) time id ≡ None
+  pub up_to : (floor time : ℕ) → IsUpTo time (record { chains = empty; floor = floor })
+
+-- a version is what its `_id` has from its time on, and changes no reading before it and none of another `_id`
+pub record AddsVersion : Type 0 where
+  pub now_there : (s : VersionsOf) (id : Value) (v : Version) → now (with_version s id v) id ≡ v.document
+  pub now_elsewhere : (s : VersionsOf) (id other : Value) (v : Version) → other ≢ id → now (with_version s id v) other ≡ now s other
+  pub from_then : (s : VersionsOf) (id : Value) (v : Version) (time : ℕ) → v.time ≤ time → at (with_version s id v) time id ≡ v.document
+  pub before : (s : VersionsOf) (id other : Value) (v : Version) (time : ℕ) → time < v.time → at (with_version s id v) time other ≡ at s time other
+  pub elsewhere : (s : VersionsOf) (id other : Value) (v : Version) (time : ℕ) → other ≢ id → at (with_version s id v) time other ≡ at s time other
+  pub up_to : (s : VersionsOf) (id : Value) (v : Version) (time : ℕ) → IsUpTo time s → v.time ≤ time → IsUpTo time (with_version s id v)
+
+-- a version that is taken back leaves all as it was before it
+abbrev pub TakesBack : Type 0
+TakesBack = (s : VersionsOf) (id : Value) (v : Version) → IsFiled s.chains → without_last (with_version s id v) id ≡ s
+
+-- where no version of an `_id` is later, the reading at a time is what stands now
+abbrev pub ReadsNow : Type 0
+ReadsNow = (s : VersionsOf) (time : ℕ) (id : Value) → AllByRecursion (λ v. v.time ≤ time) (chain_of s id) → at s time id ≡ now s id
+
+-- chains stay their `_id`s' where a version is added that is, and where all are pruned
+pub record KeepsFiled : Type 0 where
+  pub empty : IsFiled empty
+  pub added : (s : VersionsOf) (id : Value) (v : Version) → IsFiled s.chains → IfSome v.document (λ d. id_of d ≡ id) → IsFiled (with_version s id v).chains
+  pub pruned : (s : VersionsOf) (time : ℕ) → IsFiled s.chains → IsFiled (pruned time s).chains
+
+-- pruning changes no reading from the new floor on, nothing that stands now, and puts no version later
+pub record PrunesUnseen : Type 0 where
+  pub readings : (s : VersionsOf) (time t : ℕ) (id : Value) → (pruned time s).floor ≤ t → at (pruned time s) t id ≡ at s t id
+  pub now : (s : VersionsOf) (time : ℕ) (id : Value) → now (pruned time s) id ≡ now s id
+  pub up_to : (s : VersionsOf) (time t : ℕ) → IsUpTo t s → IsUpTo t (pruned time s)
+
+-- the documents at a time above an `_id` are those that are read under such an `_id`, each once, and their `_id`s rise
+pub record StandsByReading : Type 0 where
+  pub read : (s : VersionsOf) (time : ℕ) (after : Option Value) (d : Document) → IsFiled s.chains → Contains (standing_after s time after) d → (at s time (id_of d) ≡ Some d) × (is_above after (id_of d) ≡ true)
+  pub listed : (s : VersionsOf) (time : ℕ) (after : Option Value) (id : Value) (d : Document) → at s time id ≡ Some d → is_above after id ≡ true → Contains (standing_after s time after) d
+  pub rise : (s : VersionsOf) (time : ℕ) (after : Option Value) → IsFiled s.chains → IsStrictlySortedBy compare_of (map id_of (standing_after s time after))

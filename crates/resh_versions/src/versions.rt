@@ -1,0 +1,237 @@
+ghost use Rattle.std.specs.Prelude.{◌≡◌, ◌≤◌, ℕ, Some, take, IfOk, IfSome, OnOk, OnErr};
+ghost use Rattle.std.specs.FinMap.{empty, get};
+ghost use Rattle.std.specs.List.{filter_map};
+ghost use Rattle.std.specs.Option.{is_some, option_copied};
+ghost use Rattle.resh_value.specs.Lookup.{id_of};
+ghost use Rattle.resh_versions.specs.Chains.{chain_at, version};
+ghost use Rattle.resh_versions.specs.Standing.{IsChainOf, IsFiled, IsKept, at, filed, now, popped, pruned, pruned_chains, pushed, standing_after, with_removal, with_version, without_last};
+
+use crate::chain::Chain;
+use crate::version::Version;
+use resh_value::{Document, Documents, NoMemory, Sequence, Value};
+use std::alloc::Global;
+use std::collections::BTreeMap;
+use std::collections::btree_map::Range;
+use std::marker::Model;
+use std::ops::Bound;
+
+/// What documents stood under each `_id` from which time on.
+#[derive(Debug, Drop)]
+pub struct Versions {
+    chains: BTreeMap<Value, Chain>,
+    floor: u64,
+    alloc: Global,
+}
+
+impl Model for Versions {
+    ghost use Rattle.resh_versions.specs.Standing.{IsKept, VersionsOf, filed, versions_code};
+
+    ghost Value = { VersionsOf };
+
+    ghost coded = { versions_code };
+
+    ghost view = { λ v. record { chains = filed v.chains; floor = v.floor } };
+
+    ghost invariant = { λ v. IsKept v.chains };
+}
+
+impl Versions {
+    /// Nothing stands, and readings are answered from time 0 on.
+    pub fn new(alloc: Global) -> Versions
+        ensures chains { result.chains ≡ empty }
+        ensures floor { result.floor ≡ 0 }
+    {
+        Versions {
+            chains: BTreeMap::new(alloc),
+            floor: 0,
+            alloc,
+        }
+    }
+
+    /// Puts a document under its `_id` from a time on. Want of memory leaves all as it was.
+    pub fn put(&mut self, time: u64, document: Document) -> Result<(), NoMemory>
+        ensures ok { OnOk result (self.new ≡ with_version self.old (id_of document) (version time (Some document))) }
+        ensures undone { OnOk result (without_last self.new (id_of document) ≡ self.old) }
+        ensures unchanged { OnErr result (self.new ≡ self.old) }
+    {
+        let id = copy_of_id(self.alloc, &document)?;
+        let version = Version {
+            time,
+            document: Some(document),
+        };
+        push_version(&mut self.chains, self.alloc, id, version)?;
+        Ok(())
+    }
+
+    /// Nothing stands under an `_id` from a time on; false exactly where nothing stood there, and then all is as it was.
+    /// Want of memory leaves all as it was.
+    pub fn remove(&mut self, time: u64, id: &Value) -> Result<bool, NoMemory>
+        ensures stood { IfOk result (λ stood. stood ≡ is_some (now self.old id.now)) }
+        ensures ok { OnOk result (self.new ≡ with_removal self.old time id.now) }
+        ensures unchanged { OnErr result (self.new ≡ self.old) }
+    {
+        if self.now(id).is_none() {
+            return Ok(false);
+        }
+        let version = Version {
+            time,
+            document: None,
+        };
+        push_version(&mut self.chains, self.alloc, id.copy(self.alloc)?, version)?;
+        Ok(true)
+    }
+
+    /// Takes the last put of an `_id` back.
+    pub fn undo_put(&mut self, id: &Value)
+        ensures { self.new ≡ without_last self.old id.now }
+    {
+        pop_version(&mut self.chains, id);
+    }
+
+    /// What stands now under an `_id`; `None` exactly where nothing does.
+    pub fn now(&self, id: &Value) -> Option<&Document>
+        ensures now { option_copied result ≡ now self.now id.now }
+        ensures named { IfSome result (λ document. id_of document.now ≡ id.now) }
+    {
+        match chain_of(&self.chains, id) {
+            Some(chain) => chain.newest(),
+            None => None,
+        }
+    }
+
+    /// What stood at a time under an `_id`; `None` exactly where nothing did.
+    pub fn at(&self, time: u64, id: &Value) -> Option<&Document>
+        requires { self.now.floor ≤ time }
+        ensures at { option_copied result ≡ at self.now time id.now }
+        ensures named { IfSome result (λ document. id_of document.now ≡ id.now) }
+    {
+        match chain_of(&self.chains, id) {
+            Some(chain) => chain.at(time),
+            None => None,
+        }
+    }
+
+    /// Copies of the first documents at a time, by `_id`, above an `_id` where one is given.
+    pub fn scan_at(
+        &self,
+        time: u64,
+        after: Option<&Value>,
+        most: u32,
+    ) -> Result<Documents, NoMemory>
+        requires { self.now.floor ≤ time }
+        ensures { IfOk result (λ ds. ds ≡ take most (standing_after self.now time (option_copied after.entry))) }
+    {
+        match after {
+            Some(id) => {
+                let above = self.chains.range((Bound::Excluded(id), Bound::Unbounded));
+                first_standing(self.alloc, above, time, most as usize)
+            }
+            None => first_standing(self.alloc, self.chains.range(..), time, most as usize),
+        }
+    }
+
+    /// The time from which on readings are answered. Each chain has versions, and their documents its `_id`.
+    pub fn floor(&self) -> u64
+        ensures floor { result ≡ self.now.floor }
+        ensures filed { IsFiled self.now.chains }
+    {
+        self.floor
+    }
+
+    /// Drops what no reading from a time on can give. Readings are answered from then on, or as before where that is
+    /// later.
+    pub fn prune(&mut self, time: u64)
+        ensures pruned { self.new ≡ pruned time self.old }
+        ensures readings { (t : ℕ) (id : Value) → self.new.floor ≤ t → at self.new t id ≡ at self.old t id }
+        ensures now { (id : Value) → now self.new id ≡ now self.old id }
+    {
+        self.floor = self.floor.max(time);
+        prune_chains(&mut self.chains, self.floor);
+    }
+}
+
+fn copy_of_id(alloc: Global, document: &Document) -> Result<Value, NoMemory>
+    ensures { IfOk result (λ id. id ≡ id_of document.now) }
+{
+    match document.id() {
+        Some(id) => id.copy(alloc),
+        None => Ok(Value::Null),
+    }
+}
+
+/// The versions of an `_id`; `None` exactly where it has none.
+fn chain_of<'a>(chains: &'a BTreeMap<Value, Chain>, id: &Value) -> Option<&'a Chain>
+    requires { IsKept chains.now }
+    ensures found { option_copied result ≡ get (filed chains.now) id.now }
+    ensures named { IfSome result (λ chain. IsChainOf id.now chain.now) }
+{
+    chains.get(id)
+}
+
+/// Puts a version behind the others of its `_id`.
+fn push_version(
+    chains: &mut BTreeMap<Value, Chain>,
+    alloc: Global,
+    id: Value,
+    version: Version,
+) -> Result<(), NoMemory>
+    requires kept { IsKept chains.old }
+    requires named { IfSome version.document (λ document. id_of document ≡ id) }
+    ensures ok { OnOk result (filed chains.new ≡ pushed (filed chains.old) id version) }
+    ensures unchanged { OnErr result (filed chains.new ≡ filed chains.old) }
+    ensures kept { IsKept chains.new }
+{
+    if let Some(chain) = chains.get_mut(&id) {
+        chain.push(version)?;
+        return Ok(());
+    }
+    chains.insert(id, Chain::of(alloc, version)?)?;
+    Ok(())
+}
+
+/// Takes the last version of an `_id` out, and its chain where none is left.
+fn pop_version(chains: &mut BTreeMap<Value, Chain>, id: &Value)
+    requires { IsKept chains.old }
+    ensures popped { filed chains.new ≡ popped (filed chains.old) id.now }
+    ensures kept { IsKept chains.new }
+{
+    if let Some(chain) = chains.get_mut(id) {
+        chain.pop();
+        if !chain.has_versions() {
+            chains.remove(id);
+        }
+    }
+}
+
+/// Prunes every chain, and takes those without versions out.
+fn prune_chains(chains: &mut BTreeMap<Value, Chain>, time: u64)
+    requires { IsKept chains.old }
+    ensures pruned { filed chains.new ≡ pruned_chains time (filed chains.old) }
+    ensures kept { IsKept chains.new }
+{
+    chains.retain(|_, chain| {
+        chain.prune(time);
+        chain.has_versions()
+    });
+}
+
+/// Copies of the first documents that chains have at a time.
+fn first_standing(
+    alloc: Global,
+    chains: Range<'_, Value, Chain>,
+    time: u64,
+    most: usize,
+) -> Result<Documents, NoMemory>
+    ensures { IfOk result (λ ds. ds ≡ take most (filter_map (λ e. chain_at time e.1) chains.entry)) }
+{
+    let mut documents = Vec::new(alloc);
+    for (_, chain) in chains {
+        if documents.len() >= most {
+            return Ok(Sequence::from_vec(documents));
+        }
+        if let Some(document) = chain.at(time) {
+            documents.push(document.copy()?)?;
+        }
+    }
+    Ok(Sequence::from_vec(documents))
+}
