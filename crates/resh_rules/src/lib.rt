@@ -2,5 +2,10 @@
 #![tactic(auto)]
 
 mod laws;
+mod pool;
+mod rule;
+mod shelf;
 
 pub use laws::rule_laws;
+pub use pool::Pool;
+pub use rule::Rule;

@@ -1,0 +1,4 @@
+mod Writing
+mod Pooling
+pub mod Ruling
+pub mod Unnamed

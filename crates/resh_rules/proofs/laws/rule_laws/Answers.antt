@@ -1,0 +1,21 @@
+use Rattle.resh_rules.proofs.Ruling.{empty_sound, inserted_sound, inserted_effect, updated_sound, updated_effect, deleted_sound, deleted_effect, stands}
+use Rattle.resh_rules.proofs.Unnamed.{id_stays, owner_stays}
+use Rattle.resh_rules.proofs.laws.rule_laws.Goals as goal
+
+pub returns-clause-empty : goal.returns-clause-empty
+returns-clause-empty c = empty_sound
+
+pub returns-clause-stands : goal.returns-clause-stands
+returns-clause-stands c = stands
+
+pub returns-clause-inserts : goal.returns-clause-inserts
+returns-clause-inserts c = record { sound = inserted_sound; effect = inserted_effect }
+
+pub returns-clause-updates : goal.returns-clause-updates
+returns-clause-updates c = record {
+  sound = λ old id held donor assign unset s n. updated_sound old id held donor assign unset s (λ d. id_stays assign unset d n.id) (λ d. owner_stays old assign unset d n.key);
+  effect = λ old id held donor assign unset s n. updated_effect old id held donor assign unset s (λ d. owner_stays old assign unset d n.key);
+}
+
+pub returns-clause-deletes : goal.returns-clause-deletes
+returns-clause-deletes c = record { sound = deleted_sound; effect = deleted_effect }

@@ -1,0 +1,5 @@
+use Rattle.resh_rules.proofs.Writing.{alter_written}
+use Rattle.resh_rules.proofs.shelf.alter.Goals as goal
+
+pub returns-clause-written : goal.returns-clause-written
+returns-clause-written c = alter_written c.args.stash.now.documents c.apply.new.self.documents c.args.id.now c.args.change.now.assign c.args.change.now.unset c.in_ok-apply.ensures.ok

@@ -1,0 +1,23 @@
+use resh_value::ShardId;
+
+/// Which rule an entry met, and from whose stash a delete took.
+#[derive(Debug, Drop, Clone, Copy, PartialEq, Eq)]
+pub struct Rule {
+    /// 1 to 4.
+    pub number: u8,
+    /// The donor whose waiting document came into the output.
+    pub took: Option<ShardId>,
+}
+
+/// Where an entry's donor finds the `_id`.
+#[derive(Debug, Drop, Clone, Copy, PartialEq, Eq)]
+pub(crate) enum Found {
+    /// In its own stash.
+    Waiting,
+    /// Neither there nor in the output.
+    Nothing,
+    /// In the output, and the document is its own.
+    Own,
+    /// In the output, and the document is another donor's.
+    Others,
+}
