@@ -5,3 +5,4 @@ pub mod Laws
 pub mod Pools
 pub mod Writes
 pub mod Finding
+pub mod Fits
