@@ -54,31 +54,19 @@ impl Pool {
         match self.found(donor, &id) {
             Found::Waiting => {
                 self.put_waiting(donor, id, document);
-                Rule {
-                    number: 1,
-                    took: None,
-                }
+                Rule::met(1)
             }
             Found::Nothing => {
                 self.put_output(id, document);
-                Rule {
-                    number: 2,
-                    took: None,
-                }
+                Rule::met(2)
             }
             Found::Own => {
                 self.put_output(id, document);
-                Rule {
-                    number: 3,
-                    took: None,
-                }
+                Rule::met(3)
             }
             Found::Others => {
                 self.put_waiting(donor, id, document);
-                Rule {
-                    number: 4,
-                    took: None,
-                }
+                Rule::met(4)
             }
         }
     }
@@ -97,25 +85,13 @@ impl Pool {
         match self.found(donor, id) {
             Found::Waiting => {
                 self.alter_waiting(donor, id, change)?;
-                Ok(Rule {
-                    number: 1,
-                    took: None,
-                })
+                Ok(Rule::met(1))
             }
-            Found::Nothing => Ok(Rule {
-                number: 2,
-                took: None,
-            }),
-            Found::Others => Ok(Rule {
-                number: 3,
-                took: None,
-            }),
+            Found::Nothing => Ok(Rule::met(2)),
+            Found::Others => Ok(Rule::met(3)),
             Found::Own => {
                 self.alter_output(id, change)?;
-                Ok(Rule {
-                    number: 4,
-                    took: None,
-                })
+                Ok(Rule::met(4))
             }
         }
     }
@@ -133,19 +109,10 @@ impl Pool {
         match self.found(donor, id) {
             Found::Waiting => {
                 self.take_waiting(donor, id);
-                Rule {
-                    number: 1,
-                    took: None,
-                }
+                Rule::met(1)
             }
-            Found::Nothing => Rule {
-                number: 2,
-                took: None,
-            },
-            Found::Others => Rule {
-                number: 3,
-                took: None,
-            },
+            Found::Nothing => Rule::met(2),
+            Found::Others => Rule::met(3),
             Found::Own => Rule {
                 number: 4,
                 took: self.refill(id),

@@ -1,3 +1,5 @@
+ghost use Rattle.std.specs.Prelude.{◌≡◌, None};
+
 use resh_value::ShardId;
 
 /// Which rule an entry met, and from whose stash a delete took.
@@ -7,6 +9,16 @@ pub struct Rule {
     pub number: u8,
     /// The donor whose waiting document came into the output.
     pub took: Option<ShardId>,
+}
+
+impl Rule {
+    /// A rule by which nothing was taken from a stash.
+    pub(crate) fn met(number: u8) -> Rule
+        ensures number { result.number ≡ number }
+        ensures took { result.took ≡ None }
+    {
+        Rule { number, took: None }
+    }
 }
 
 /// Where an entry's donor finds the `_id`.
