@@ -2,3 +2,4 @@ mod Writing
 mod Pooling
 pub mod Ruling
 pub mod Unnamed
+mod Upkeeping

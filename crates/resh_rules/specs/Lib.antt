@@ -6,3 +6,4 @@ pub mod Pools
 pub mod Writes
 pub mod Finding
 pub mod Fits
+pub mod Upkeep

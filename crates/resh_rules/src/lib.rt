@@ -6,6 +6,7 @@ mod laws;
 mod pool;
 mod rule;
 mod shelf;
+mod upkeep;
 
 pub use laws::rule_laws;
 pub use pool::Pool;
