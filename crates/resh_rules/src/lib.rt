@@ -6,6 +6,8 @@ mod laws;
 mod pool;
 mod rule;
 mod shelf;
+#[cfg(test)]
+mod tests;
 mod upkeep;
 
 pub use laws::rule_laws;
