@@ -3,3 +3,4 @@ mod Pooling
 pub mod Ruling
 pub mod Unnamed
 mod Upkeeping
+pub mod Interleaved

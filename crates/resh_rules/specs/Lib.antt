@@ -7,3 +7,4 @@ pub mod Writes
 pub mod Finding
 pub mod Fits
 pub mod Upkeep
+pub mod Interleaving

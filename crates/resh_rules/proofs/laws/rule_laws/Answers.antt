@@ -1,3 +1,4 @@
+use Rattle.resh_rules.proofs.Interleaved.{all_sound, all_slots, alike_slots}
 use Rattle.resh_rules.proofs.Ruling.{empty_sound, inserted_sound, inserted_effect, updated_sound, updated_effect, deleted_sound, deleted_effect, stands}
 use Rattle.resh_rules.proofs.Unnamed.{id_stays, owner_stays}
 use Rattle.resh_rules.proofs.laws.rule_laws.Goals as goal
@@ -19,3 +20,6 @@ returns-clause-updates c = record {
 
 pub returns-clause-deletes : goal.returns-clause-deletes
 returns-clause-deletes c = record { sound = deleted_sound; effect = deleted_effect }
+
+pub returns-clause-interleaves : goal.returns-clause-interleaves
+returns-clause-interleaves c = record { sound = all_sound; slots = all_slots; alike = alike_slots }
