@@ -1,0 +1,10 @@
+use Rattle.std.proofs.Common.{◌≡◌, true, sym, subst}
+use Rattle.std.proofs.lemmas.List.Elements.{All-map}
+use Rattle.resh_oplog.specs.Logs.{is_whole}
+use Rattle.resh_fetcher.specs.Items.{AreWhole, cloned_item}
+use Rattle.resh_fetcher.specs.declared.item.Item.{Item}
+use Rattle.resh_fetcher.proofs.link.Link.take_cloned.Goals as goal
+
+pub put-requires : goal.put-requires
+put-requires c =
+    subst AreWhole (sym c.in_ok-items.ensures) (All-map (λ (item : Item). is_whole item.what ≡ true) cloned_item c.args.cloned.documents c.requires.whole)

@@ -1,0 +1,13 @@
+//! A recipient's link to a donor: how the donor's feed is read, buffered, cut into batches and kept.
+#![tactic(auto)]
+
+mod batch;
+mod fetched;
+mod item;
+mod items;
+mod link;
+
+pub use batch::{Batch, Whats};
+pub use fetched::Fetched;
+pub use item::{After, Item, Out, Reading};
+pub use link::Link;
