@@ -6,6 +6,8 @@ mod fetched;
 mod item;
 mod items;
 mod link;
+#[cfg(test)]
+mod tests;
 
 pub use batch::{Batch, Whats};
 pub use fetched::Fetched;

@@ -1,10 +1,10 @@
-ghost use Rattle.std.specs.Prelude.{◌≡◌, ◌+◌, ◌<◌, ◌≤◌, ◌++◌, true, false, None, is_some, length, map, take, drop, IfOk, OnOk, OnErr, slice_get};
-ghost use Rattle.std.specs.List.{All, last_or};
+ghost use Rattle.std.specs.Prelude.{◌≡◌, ◌+◌, ◌<◌, ◌≤◌, true, false, None, is_some, length, IfOk, OnOk, OnErr, slice_get};
+ghost use Rattle.std.specs.List.{All};
 ghost use Rattle.std.specs.Option.{option_copied, option_map};
-ghost use Rattle.resh_value.specs.Lookup.{has_id, id_of};
+ghost use Rattle.resh_value.specs.Lookup.{has_id};
 ghost use Rattle.resh_oplog.specs.Logs.{is_whole};
-ghost use Rattle.resh_fetcher.specs.Items.{AreWhole, cloned_item, fetched_item, has_final, past_all, up_to_final};
-ghost use Rattle.resh_fetcher.specs.Links.{batch_kept, closed, cut, end_of_places, ends, failed, fresh, gone_back, is_cloned, last_id, mark_read, next_entries, out_end, sent_out, started, told_of, with_cloned, with_fetched, with_items};
+ghost use Rattle.resh_fetcher.specs.Items.{AreWhole, up_to_final};
+ghost use Rattle.resh_fetcher.specs.Links.{batch_kept, closed, cut, end_of_places, ends, failed, fresh, gone_back, is_cloned, last_id, mark_read, next_entries, sent_out, started, told_of, with_cloned, with_fetched, with_items};
 
 use crate::batch::Batch;
 use crate::fetched::Fetched;
