@@ -47,33 +47,46 @@ fn row(min: Bound, max: Bound, shard: u32) -> ChunkRow {
     }
 }
 
-fn entry(alloc: Global, kind: Kind, id: i64) -> Result<What, Fail> {
-    match kind {
-        Kind::Insert { x } => Ok(What::Insert(document(alloc, &[("_id", id), ("x", x)])?)),
-        Kind::Update => match Change::new(document(alloc, &[("n", 5)])?, Names::new(alloc)) {
-            Some(change) => Ok(What::Update {
-                id: Value::Int(id),
-                change,
-            }),
-            None => Err(Fail::from("no change")),
-        },
-        Kind::Delete => Ok(What::Delete { id: Value::Int(id) }),
-    }
-}
-
-// Gives the pool an entry that fits it.
-fn give(alloc: Global, pool: &mut Pool, donor: u32, kind: Kind, id: i64) -> Result<Rule, Fail> {
-    let what = entry(alloc, kind, id)?;
+fn insert(alloc: Global, pool: &mut Pool, donor: u32, id: i64, x: i64) -> Result<Rule, Fail> {
+    let document = document(alloc, &[("_id", id), ("x", x)])?;
+    let what = What::Insert(document.copy()?);
     let id = Value::Int(id);
     pool.reserve(1)?;
     if !pool.fits(ShardId(donor), &id, &what) {
         return Err(Fail::from("it doesn't fit"));
     }
-    match what {
-        What::Insert(document) => Ok(pool.insert(ShardId(donor), id, document)),
-        What::Update { change, .. } => Ok(pool.update(ShardId(donor), &id, &change)?),
-        What::Delete { .. } => Ok(pool.delete(ShardId(donor), &id)),
-        What::Final => Err(Fail::from("a final entry")),
+    Ok(pool.insert(ShardId(donor), id, document))
+}
+
+fn update(alloc: Global, pool: &mut Pool, donor: u32, id: i64) -> Result<Rule, Fail> {
+    let Some(change) = Change::new(document(alloc, &[("n", 5)])?, Names::new(alloc)) else {
+        return Err(Fail::from("no change"));
+    };
+    let what = What::Update {
+        id: Value::Int(id),
+        change: change.copy(alloc)?,
+    };
+    let id = Value::Int(id);
+    if !pool.fits(ShardId(donor), &id, &what) {
+        return Err(Fail::from("it doesn't fit"));
+    }
+    Ok(pool.update(ShardId(donor), &id, &change)?)
+}
+
+fn delete(pool: &mut Pool, donor: u32, id: i64) -> Result<Rule, Fail> {
+    let what = What::Delete { id: Value::Int(id) };
+    let id = Value::Int(id);
+    if !pool.fits(ShardId(donor), &id, &what) {
+        return Err(Fail::from("it doesn't fit"));
+    }
+    Ok(pool.delete(ShardId(donor), &id))
+}
+
+fn give(alloc: Global, pool: &mut Pool, donor: u32, kind: Kind, id: i64) -> Result<Rule, Fail> {
+    match kind {
+        Kind::Insert { x } => insert(alloc, pool, donor, id, x),
+        Kind::Update => update(alloc, pool, donor, id),
+        Kind::Delete => delete(pool, donor, id),
     }
 }
 

@@ -1,0 +1,10 @@
+//! How the items of a link are split by `_id` among the lanes of the recipient.
+#![tactic(auto)]
+
+mod counts;
+mod lane;
+mod splitting;
+
+pub use counts::ends_of;
+pub use lane::{id_lane, lane_of};
+pub use splitting::{Parts, Pieces, split};
