@@ -1,8 +1,11 @@
-ghost use Rattle.std.specs.Prelude.{◌≡◌, ◌<◌, ◌≤◌, ◌+◌};
+ghost use Rattle.std.specs.Prelude.{◌≡◌, ◌<◌, ◌≤◌, ◌+◌, true};
 ghost use Rattle.std.specs.List.{All};
-ghost use Rattle.resh_stamp.specs.Times.{end_of_time, latest, next_time};
+ghost use Rattle.resh_stamp.specs.Times.{end_of_time, has_next, latest, next_time};
 
 use std::marker::Model;
+
+/// Times stay below this.
+pub const END_OF_TIME: u64 = 1 << 62;
 
 /// The time of a cell: that of the last event that held it.
 #[derive(Debug, Drop)]
@@ -40,10 +43,16 @@ impl Clock {
         self.time = time;
     }
 
+    /// Whether an event on this clock and on others has a time.
+    pub fn has_next(&self, others: &[u64]) -> bool
+        ensures { result ≡ has_next self.now others.now }
+    {
+        latest_of(self.time, others) < END_OF_TIME - 1
+    }
+
     /// The time of an event on this clock and on others: one more than the latest of them.
     pub fn next(&self, others: &[u64]) -> u64
-        requires own { self.now + 1 < end_of_time }
-        requires others { All (λ time. time + 1 < end_of_time) others.now }
+        requires { has_next self.now others.now ≡ true }
         ensures next { result ≡ next_time self.now others.now }
         ensures later { self.now < result }
         ensures later_than_all { All (λ time. time < result) others.now }
@@ -54,53 +63,12 @@ impl Clock {
 }
 
 fn latest_of(now: u64, others: &[u64]) -> u64
-    requires own { now + 1 < end_of_time }
-    requires others { All (λ time. time + 1 < end_of_time) others.now }
     ensures latest { result ≡ latest now others.now }
     ensures not_earlier { now ≤ result }
     ensures not_earlier_than_all { All (λ time. time ≤ result) others.now }
-    ensures within { result + 1 < end_of_time }
 {
     match others {
         [] => now,
         [first, rest @ ..] => latest_of(now.max(*first), rest),
-    }
-}
-
-#[cfg(test)]
-mod tests {
-    use super::*;
-    use crate::stamp::{Mark, Stamp};
-    use std::cmp::Ordering;
-    use std::test::Fail;
-
-    #[test]
-    fn a_clock_is_set_past_all_others(rt: HostRuntime) -> Result<(), Fail> {
-        let mut clock = Clock::new();
-        assert_eq!(rt; clock.next(&[]), 1);
-        clock.set(4);
-        assert_eq!(rt; clock.next(&[2, 7, 3]), 8);
-        assert_eq!(rt; clock.next(&[2, 3]), 5);
-        assert_eq!(rt; clock.now(), 4);
-        Ok(())
-    }
-
-    #[test]
-    fn stamps_rise_by_time_first(rt: HostRuntime) -> Result<(), Fail> {
-        let early = Stamp { time: 1, node: 9 };
-        let late = Stamp { time: 2, node: 0 };
-        assert_eq!(rt; early.compare(&late), Ordering::Less);
-        assert_eq!(rt; early.cmp(&late), Ordering::Less);
-        let first = Mark {
-            stamp: late,
-            part: 0,
-        };
-        let second = Mark {
-            stamp: late,
-            part: 1,
-        };
-        assert_eq!(rt; second.compare(&first), Ordering::Greater);
-        assert_eq!(rt; first.compare(&first), Ordering::Equal);
-        Ok(())
     }
 }

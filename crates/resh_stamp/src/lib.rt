@@ -2,7 +2,9 @@
 #![tactic(auto)]
 
 mod clock;
+mod laws;
 mod stamp;
 
-pub use clock::Clock;
+pub use clock::{Clock, END_OF_TIME};
+pub use laws::stamp_laws;
 pub use stamp::{Logged, Mark, Stamp, Stamped};
