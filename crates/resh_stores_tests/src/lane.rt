@@ -1,0 +1,1 @@
+//! A lane takes pieces, goes back and hands its documents out.

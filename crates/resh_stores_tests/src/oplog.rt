@@ -1,0 +1,1 @@
+//! Logs by donor and recipient.

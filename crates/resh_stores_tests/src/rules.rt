@@ -1,0 +1,1 @@
+//! Entries of several donors by the rules.

@@ -1,0 +1,1 @@
+//! Cluster times and stamps.

@@ -1,0 +1,1 @@
+//! Documents by `_id`.
