@@ -1,6 +1,6 @@
 -- The laws of changes.
-use Rattle.std.proofs.Common.{◌≡◌, ℕ, ◌+◌, ◌<◌, ◌&&◌, is_none, Bool, true, false, cond, ◌||◌, IsTrue, List, [], ◌∷◌, ◌++◌, length, get_or, take, Option, Some, None, refl, ap, sym, ◌∙◌, subst}
-use Rattle.std.specs.declared.cmp.Ordering.TheVariants.{Less, Equal, Greater}
+use Rattle.std.proofs.Common.{◌≡◌, ℕ, ◌+◌, ◌<◌, ◌&&◌, is_none, Bool, true, false, cond, ◌||◌, List, [], ◌∷◌, ◌++◌, length, get_or, take, Option, Some, None, refl, ap, sym, ◌∙◌, subst}
+use Rattle.std.specs.declared.cmp.Ordering.TheVariants.{Equal}
 use Rattle.std.specs.Ordering.{is_eq}
 use Rattle.std.proofs.lemmas.List.{take_more}
 use Rattle.std.proofs.lemmas.Map.Keys.{sorted_head, sorted_tail}
@@ -9,7 +9,6 @@ use Rattle.resh_value.specs.Names.{name_cmp, HasRisingNames}
 use Rattle.resh_value.specs.Lookup.{field_of, with_field, without_field}
 use Rattle.resh_value.specs.Change.{with_fields, without_fields, changed, are_apart, is_among, changed_value}
 use Rattle.resh_value.proofs.Names.{by_order, same_from_equal}
-use Rattle.resh_value.proofs.FieldSteps.{field_of-here, field_of-past}
 use Rattle.resh_value.proofs.FieldLaws.{HasRisingNames-with_field, HasRisingNames-without_field, field_of-with_field, field_of-without_field, field_of-below}
 
 and_parts : (a b : Bool) → (a && b) ≡ true → (a ≡ true) × (b ≡ true)

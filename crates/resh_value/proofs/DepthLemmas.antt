@@ -1,5 +1,5 @@
 -- The greatest of numbers, and the levels of a document.
-use Rattle.std.proofs.Common.{◌≡◌, ℕ, suc, max, List, [], ◌∷◌, ◌++◌, map, refl, ap, ◌∙◌, rules, arith}
+use Rattle.std.proofs.Common.{◌≡◌, ℕ, suc, List, map, ap, ◌∙◌, rules}
 use Rattle.std.proofs.lemmas.Simd.{map-map}
 use Rattle.resh_value.specs.Depth.{greatest, levels_of, document_levels}
 use Rattle.resh_value.specs.declared.value.Value.{Value, the_lemmas}

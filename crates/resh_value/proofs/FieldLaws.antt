@@ -1,14 +1,13 @@
 -- The laws of fields by name.
-use Rattle.std.proofs.Common.{◌≡◌, ◌≢◌, ℕ, Bool, true, false, cond, List, [], ◌∷◌, Option, Some, None, refl, ap, sym, ◌∙◌, subst}
-use Rattle.std.specs.declared.cmp.Ordering.{Ordering}
-use Rattle.std.specs.declared.cmp.Ordering.TheVariants.{Less, Equal, Greater}
+use Rattle.std.proofs.Common.{◌≡◌, ℕ, Bool, false, cond, List, [], ◌∷◌, Option, Some, None, refl, ap, sym, ◌∙◌, subst}
+use Rattle.std.specs.declared.cmp.Ordering.TheVariants.{Less}
 use Rattle.std.specs.Ordering.{is_eq}
 use Rattle.std.specs.List.{AllByRecursion}
 use Rattle.std.specs.List.Sorted.{IsStrictlySortedBy}
 use Rattle.std.specs.Map.{keys_of}
 use Rattle.resh_value.specs.Names.{name_cmp, HasRisingNames}
 use Rattle.resh_value.specs.Lookup.{field_of, with_field, without_field}
-use Rattle.resh_value.proofs.Names.{name_cmp_total, name_cmp-itself, greater_from_less, less_from_greater, same_from_equal, by_order, apart_from_unlike}
+use Rattle.resh_value.proofs.Names.{name_cmp_total, name_cmp-itself, less_from_greater, same_from_equal, by_order}
 use Rattle.resh_value.proofs.FieldSteps.{field_of-here, field_of-past, with_field-before, with_field-here, with_field-past, without_field-here, without_field-past}
 
 module _ {X : Type 0} where

@@ -1,5 +1,5 @@
 -- What escaping does to a character of a name.
-use Rattle.std.proofs.Common.{◌≡◌, ℕ, zero, suc, ◌+◌, ◌<◌, cond, ◌==◌, true, false, List, [], ◌∷◌, ◌++◌, length, get_or, flat_map, encode_utf8, sym, ap, ◌∙◌, refl, arith, append-nil}
+use Rattle.std.proofs.Common.{◌≡◌, ℕ, suc, ◌<◌, List, [], ◌∷◌, ◌++◌, length, get_or, flat_map, encode_utf8, sym, ◌∙◌, refl, arith, append-nil}
 use Rattle.std.proofs.lemmas.Bool.Decides.{nat_tests}
 use Rattle.std.proofs.lemmas.Str.{inside_one}
 use Rattle.resh_value.specs.Paths.{pointer_escape}

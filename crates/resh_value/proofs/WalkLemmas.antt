@@ -1,10 +1,7 @@
 -- What the walk has read, and what is left of it.
-use Rattle.std.proofs.Common.{◌≡◌, ◌≢◌, ℕ, ◌+◌, List, [], ◌∷◌, ◌++◌, String, Global, map, Result, Ok, Err, string_bytes, refl, sym, ap, ◌∙◌, append_assoc, append-nil}
-use Rattle.std.specs.Map.{keys_of}
+use Rattle.std.proofs.Common.{◌≡◌, ◌≢◌, ℕ, ◌+◌, List, [], ◌∷◌, ◌++◌, Ok, Err, refl, sym, ap, ◌∙◌, append_assoc, append-nil}
 use Rattle.serde_json.specs.Data.{Data, Items, item, Members, member}
-use Rattle.serde_json.specs.View.{items_view, members_view}
-use Rattle.serde_json.specs.declared.value.Value.{Value as Json}
-use Rattle.resh_value.specs.Outcome.{and_then, in_err}
+use Rattle.resh_value.specs.Outcome.{and_then}
 use Rattle.resh_value.specs.Paths.{to_name, to_place}
 use Rattle.resh_value.specs.FromJson.{Read, under, at_step, value_at, items_at, members_at}
 use Rattle.resh_value.specs.declared.value.Value.{Value}

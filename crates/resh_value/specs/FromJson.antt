@@ -1,6 +1,7 @@
 -- The value and the document that a JSON value is, or the first fault of the walk through it.
-use Rattle.std.specs.Prelude.{ℕ, ◌+◌, ◌^◌, ℤ, pos, Bool, true, false, ◌||◌, cond, ◌==◌, nat_lt, List, [], ◌∷◌, ◌++◌, slice_index, Option, Some, None, Result, Ok, Err}
+use Rattle.std.specs.Prelude.{ℕ, ◌+◌, ◌^◌, pos, Bool, true, false, ◌||◌, cond, ◌==◌, nat_lt, List, [], ◌∷◌, ◌++◌, slice_index, Option, Some, None, Result, Ok, Err}
 use Rattle.serde_json.specs.Data.{Num, unsigned, negative, float, Data, null, boolean, number, string, array, object, Items, no_items, item, Members, no_members, member}
+use Rattle.resh_value.specs.Limits.{dollar}
 use Rattle.resh_value.specs.Outcome.{and_then, in_err}
 use Rattle.resh_value.specs.Paths.{to_name, to_place}
 use Rattle.resh_value.specs.Tags.{tag_of}
@@ -35,7 +36,7 @@ whole (negative z) = Ok (Int z)
 whole (float x) = Err (NotWhole [])
 
 abbrev pub is_dollar_name : List ℕ → Bool
-is_dollar_name name = slice_index name 0 == 36
+is_dollar_name name = slice_index name 0 == dollar
 
 abbrev pub has_dollar_name : Members → Bool
 has_dollar_name no_members = false
@@ -43,8 +44,8 @@ has_dollar_name (member name content rest) = is_dollar_name name || has_dollar_n
 
 -- an object's value, from its tag if it has one, and else from its members
 abbrev pub object_value : Option (Option Value) → Bool → Read (List (List ℕ × Value)) → Read Value
-object_value (Some (Some v)) dollar fields = Ok v
-object_value (Some None) dollar fields = Err (BadTag [])
+object_value (Some (Some v)) has_dollar fields = Ok v
+object_value (Some None) has_dollar fields = Err (BadTag [])
 object_value None true fields = Err (DollarName [])
 object_value None false fields = and_then (λ fs. Ok (Doc fs)) fields
 

@@ -2,7 +2,7 @@
 use Rattle.std.specs.Prelude.{ℕ, List, [], ◌++◌}
 use Rattle.std.specs.Hash as fed
 use Rattle.std.specs.Hash.{HashWrites}
-use Rattle.resh_value.specs.Order.{kind, rank}
+use Rattle.resh_value.specs.Order.{rank}
 use Rattle.resh_value.specs.declared.value.Value.{Value, fold-Value, out-Value}
 use Rattle.resh_value.specs.declared.value.Value.TheOpen.{Value-F}
 

@@ -1,5 +1,5 @@
 -- What a document is: values by name, and nothing else.
-use Rattle.std.specs.Prelude.{◌≡◌, ◌≢◌, ℕ, List, Option, Some, None}
+use Rattle.std.specs.Prelude.{◌≡◌, ◌≢◌, ℕ, List, Some, None}
 use Rattle.resh_value.specs.Names.{HasRisingNames}
 use Rattle.resh_value.specs.Lookup.{field_of, with_field, without_field}
 use Rattle.resh_value.specs.Change.{changed, changed_value, is_among}

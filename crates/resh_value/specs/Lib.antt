@@ -6,6 +6,7 @@ pub mod Hash
 pub mod HashLaws
 pub mod HeapList
 pub mod Laws
+pub mod Limits
 pub mod Lookup
 pub mod Names
 pub mod Order
@@ -17,3 +18,4 @@ pub mod Outcome
 pub mod Paths
 pub mod Tags
 pub mod Text
+pub mod Whole

@@ -1,6 +1,6 @@
 -- The order of values.
-use Rattle.std.specs.Prelude.{ℕ, List}
-use Rattle.std.specs.Ordering.{nat_cmp, int_cmp, bool_cmp, ordering_then}
+use Rattle.std.specs.Prelude.{ℕ, Bool, List}
+use Rattle.std.specs.Ordering.{is_eq, nat_cmp, int_cmp, bool_cmp, ordering_then}
 use Rattle.std.specs.Cmp.Lexicographic.{slice_cmp}
 use Rattle.std.specs.declared.cmp.Ordering.{Ordering}
 use Rattle.std.specs.declared.cmp.Ordering.TheVariants.{Equal}
@@ -51,6 +51,10 @@ judge_step x = record {
 
 unfoldable pub compare_of : Value → Value → Ordering
 compare_of v = (fold-Value Judge judge_step v).against
+
+-- neither is above the other: they are one value
+abbrev pub is_same : Value → Value → Bool
+is_same a b = is_eq (compare_of a b)
 
 -- the same of values that stand inside
 abbrev pub compare_fields : List ℕ × Value → List ℕ × Value → Ordering

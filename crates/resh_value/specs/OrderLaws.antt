@@ -9,7 +9,7 @@ use Rattle.std.specs.List.{AllByRecursion}
 use Rattle.std.specs.declared.cmp.Ordering.{Ordering}
 use Rattle.std.specs.declared.cmp.Ordering.TheVariants.{Less, Equal, Greater}
 use Rattle.resh_value.specs.Names.{name_cmp}
-use Rattle.resh_value.specs.Order.{compare_of, compare_fields, compare_documents, content, content_of, kind, rank}
+use Rattle.resh_value.specs.Order.{compare_of, compare_fields, compare_documents, content, content_of, kind, rank, is_same}
 use Rattle.resh_value.specs.OrderFolds.{Inside, by_inside}
 use Rattle.resh_value.specs.OrderEquations.{by_kind_then_content}
 use Rattle.resh_value.specs.OrderCodes.{code, code-cmp}
@@ -117,3 +117,10 @@ same_document fs gs = (λ e. documents_same fs gs ((Equal-is (compare_documents 
 
 pub same_values : (xs ys : List Value) → Decides (pointwise (eq_by_cmp compare_of) xs ys) (xs ≡ ys)
 same_values = pointwise_decides same_value
+
+-- values that are the same by the test are one value
+pub same_from_test : (x y : Value) → is_same x y ≡ true → x ≡ y
+same_from_test x y e = (same_value x y).0 e
+
+pub same_itself : (x : Value) → is_same x x ≡ true
+same_itself x = (same_value x x).1 refl

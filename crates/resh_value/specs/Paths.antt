@@ -1,5 +1,5 @@
 -- Paths into a JSON value, as JSON Pointers (RFC 6901).
-use Rattle.std.specs.Prelude.{ℕ, List, [], ◌∷◌, ◌++◌, cond, ◌==◌, flat_map, decimal}
+use Rattle.std.specs.Prelude.{ℕ, List, [], ◌∷◌, cond, ◌==◌, flat_map, decimal}
 
 -- `~` is written `~0`, and `/` is `~1`
 abbrev pub pointer_escape : ℕ → List ℕ

@@ -1,7 +1,9 @@
 //! Changes of a document's top-level fields.
 
-ghost use Rattle.std.specs.Prelude.{◌≡◌, IsTrue, false, OnOk, OnErr, IfOk, IfSome, IfNone};
+ghost use Rattle.std.specs.Prelude.{◌≡◌, IsTrue, false, OnOk, OnErr, IfOk, IfSome, IfNone, codes, is_some};
 ghost use Rattle.resh_value.specs.Change.{changed, is_among, is_named};
+ghost use Rattle.resh_value.specs.Lookup.{field_of};
+ghost use Rattle.resh_value.specs.Names.{HasRisingNames};
 
 use crate::fields::Fields;
 use crate::memory::NoMemory;
@@ -34,9 +36,25 @@ impl Change {
 
     /// Whether the change assigns or unsets the field of a name.
     pub fn names(&self, name: &Words) -> bool
-        ensures { result ≡ is_named self.now.assign self.now.unset name.now }
+        ensures named { result ≡ is_named self.now.assign self.now.unset name.now }
+        ensures rising { HasRisingNames self.now.assign }
     {
-        self.assign.get(name).is_some() || is_among(&self.unset, name)
+        self.names_text(name.as_str())
+    }
+
+    /// Whether the change assigns or unsets `_id`.
+    pub fn names_id(&self) -> bool
+        ensures named { result ≡ is_named self.now.assign self.now.unset (codes "_id") }
+        ensures rising { HasRisingNames self.now.assign }
+    {
+        self.names_text("_id")
+    }
+
+    fn names_text(&self, name: &str) -> bool
+        ensures named { result ≡ is_named self.now.assign self.now.unset name.now }
+        ensures rising { HasRisingNames self.now.assign }
+    {
+        is_assigned(&self.assign, name) || is_among(&self.unset, name)
     }
 
     /// A change with the same values and names, each on its own allocator.
@@ -60,10 +78,20 @@ impl Fields<Value> {
     }
 }
 
-fn is_among(names: &Names, name: &Words) -> bool
+fn is_assigned(assign: &Document, name: &str) -> bool
+    ensures assigned { result ≡ is_some (field_of assign.now name.now) }
+    ensures rising { HasRisingNames assign.now }
+{
+    assign.get_by(name).is_some()
+}
+
+fn is_among(names: &Names, name: &str) -> bool
     ensures { result ≡ is_among names.now name.now }
 {
-    names.as_slice().iter().any(|other| name.cmp(other).is_eq())
+    names
+        .as_slice()
+        .iter()
+        .any(|other| name.cmp(other.as_str()).is_eq())
 }
 
 fn have_no_common_name(assign: &Document, unset: &Names) -> bool

@@ -6,7 +6,7 @@ use crate::change::Change;
 use crate::fields::Fields;
 use crate::memory::NoMemory;
 use crate::sequence::Sequence;
-use crate::value::{Document, Items, Value};
+use crate::value::{Document, Items, ShardId, Value};
 use crate::words::Words;
 use std::alloc::Global;
 
@@ -43,6 +43,45 @@ impl<T: Copied> Copied for Sequence<T> {
 impl Copied for Change {
     fn copied(&self, alloc: Global) -> Result<Change, NoMemory> {
         self.copy(alloc)
+    }
+}
+
+impl<T: Copied> Copied for Option<T> {
+    fn copied(&self, alloc: Global) -> Result<Option<T>, NoMemory> {
+        match self {
+            Some(value) => Ok(Some(value.copied(alloc)?)),
+            None => Ok(None),
+        }
+    }
+}
+
+impl Copied for bool {
+    fn copied(&self, _alloc: Global) -> Result<bool, NoMemory> {
+        Ok(*self)
+    }
+}
+
+impl Copied for u32 {
+    fn copied(&self, _alloc: Global) -> Result<u32, NoMemory> {
+        Ok(*self)
+    }
+}
+
+impl Copied for u64 {
+    fn copied(&self, _alloc: Global) -> Result<u64, NoMemory> {
+        Ok(*self)
+    }
+}
+
+impl Copied for i64 {
+    fn copied(&self, _alloc: Global) -> Result<i64, NoMemory> {
+        Ok(*self)
+    }
+}
+
+impl Copied for ShardId {
+    fn copied(&self, _alloc: Global) -> Result<ShardId, NoMemory> {
+        Ok(*self)
     }
 }
 

@@ -77,7 +77,8 @@ impl<T> Fields<T> {
 
     /// The value under a name that is given as a text.
     pub fn get_by(&self, name: &str) -> Option<&T>
-        ensures { option_copied result ≡ field_of self.now name.now }
+        ensures found { option_copied result ≡ field_of self.now name.now }
+        ensures rising { HasRisingNames self.now }
     {
         let pairs = self.pairs.as_slice();
         match place_of(pairs, name.as_bytes()) {

@@ -8,6 +8,7 @@ ghost use Rattle.resh_value.specs.FromJson.{value_of, document_of, at_step, whol
 
 use crate::fault::{ValueFault, no_path};
 use crate::fields::Fields;
+use crate::limits::DOLLAR;
 use crate::sequence::Sequence;
 use crate::tags::tag_of;
 use crate::value::{Document, Items, Value};
@@ -184,5 +185,5 @@ fn is_dollar_name(name: &str) -> bool
     ensures { result ≡ is_dollar_name name.now }
 {
     let bytes = name.as_bytes();
-    !bytes.is_empty() && bytes[0] == b'$'
+    !bytes.is_empty() && bytes[0] == DOLLAR
 }

@@ -12,6 +12,7 @@ mod identity;
 #[cfg(test)]
 mod json_tests;
 mod laws;
+mod limits;
 mod memory;
 mod order;
 #[cfg(test)]
@@ -29,7 +30,8 @@ pub use change::Change;
 pub use copy::Copied;
 pub use fault::ValueFault;
 pub use fields::Fields;
-pub use laws::field_laws;
+pub use laws::{field_laws, whole_laws};
+pub use limits::{DOLLAR, DOT, END_OF_PLACES, TEXT_LIMIT, limit_laws};
 pub use memory::NoMemory;
 pub use order::compare;
 pub use paths::{path_to_name, path_to_place};

@@ -1,5 +1,5 @@
 use Rattle.std.proofs.Common.{◌≡◌, ◌∷◌, ◌++◌, List, ℕ, take, map, flat_map}
-use Rattle.json.specs.Token.{Token, begin_object, begin_array, key}
+use Rattle.json.specs.Token.{Token, key}
 use Rattle.resh_value.specs.Text.{tokens_of}
 use Rattle.resh_value.specs.declared.value.Value.{Value}
 use Rattle.resh_value.proofs.+write.Given as goal

@@ -1,4 +1,4 @@
-use Rattle.std.proofs.Common.{sym, ◌∙◌, arith, ◌<◌, length}
+use Rattle.std.proofs.Common.{sym, ◌∙◌, arith}
 use Rattle.resh_value.proofs.Standing.{stands_here, goes_below, goes_above, goes_between}
 use Rattle.resh_value.proofs.places.place_of.Goals as goal
 

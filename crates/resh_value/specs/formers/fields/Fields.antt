@@ -20,7 +20,7 @@ use Rattle.resh_value.specs.contracts.fields.Fields as C
 use Rattle.resh_value.specs.contracts.fields.Fields.TheInside as I
 use Rattle.resh_value.specs.contracts.words.Words as words
 use Rattle.resh_value.specs.HeapList.{heap_list, list_stays}
-use Rattle.resh_value.specs.Names.{name_cmp, HasRisingNames}
+use Rattle.resh_value.specs.Names.{name_cmp}
 
 -- a name beside one of g's values
 abbrev named : Former {0} → Former {0}
