@@ -105,7 +105,7 @@ module _ (ds : Members) where
   module _ (maps : Maps) where
     abbrev after_plan : List Document → List Client → ℕ → ℕ → Bool → Bool → Read Setup
     after_plan documents clients lanes batch steps plan =
-        Ok (record { shards = maps.shards; old_map = maps.old_map; new_map = maps.new_map; documents = documents; clients = clients; lanes = lanes; batch = batch; unbuilt = steps || plan })
+        Ok (record { shards = maps.shards; old_map = maps.old_map; new_map = maps.new_map; documents = documents; clients = clients; lanes = lanes; batch = batch; steps = []; plan = []; unbuilt = steps || plan })
 
     abbrev after_steps : List Document → List Client → ℕ → ℕ → Bool → Read Setup
     after_steps documents clients lanes batch steps = and_then (after_plan documents clients lanes batch steps) (field_or false ds (codes "plan") (has_items 1000))
@@ -133,7 +133,7 @@ module _ (ds : Members) where
         let read = Ok-required (codes "documents") (documents_in maps.old_map) (get_member (codes "documents") ds) documents.0 documents.1 in
         let placed = documents_placed maps.old_map read.0 documents.0 read.1 in
         let asked = clients_kept (get_member (codes "clients") ds) clients.0 clients.1 in
-        let found : Setup = record { shards = maps.shards; old_map = maps.old_map; new_map = maps.new_map; documents = documents.0; clients = clients.0; lanes = lanes.0; batch = batch.0; unbuilt = steps.0 || plan.0 } in
+        let found : Setup = record { shards = maps.shards; old_map = maps.old_map; new_map = maps.new_map; documents = documents.0; clients = clients.0; lanes = lanes.0; batch = batch.0; steps = []; plan = []; unbuilt = steps.0 || plan.0 } in
         let same : found ≡ setup = same_in_Ok found setup plan.2 in
         let valid : IsValid found = record {
           old_whole = over.old.whole;

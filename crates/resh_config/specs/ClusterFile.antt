@@ -108,7 +108,7 @@ maps_in ds =
 abbrev pub rest_in : Maps → Members → Read Setup
 rest_in maps ds =
     and_then (λ documents. and_then (λ clients. and_then (λ lanes. and_then (λ batch. and_then (λ steps. and_then (λ plan.
-    Ok (record { shards = maps.shards; old_map = maps.old_map; new_map = maps.new_map; documents = documents; clients = clients; lanes = lanes; batch = batch; unbuilt = steps || plan }))
+    Ok (record { shards = maps.shards; old_map = maps.old_map; new_map = maps.new_map; documents = documents; clients = clients; lanes = lanes; batch = batch; steps = []; plan = []; unbuilt = steps || plan }))
     (field_or false ds (codes "plan") (has_items 1000)))
     (field_or false ds (codes "steps") (has_items 100000)))
     (field_or 500 ds (codes "batch") (number_in 1 500)))

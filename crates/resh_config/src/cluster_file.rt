@@ -11,7 +11,7 @@ use crate::lists::HasItems;
 use crate::maps::Maps;
 use crate::names::{Key, Shards};
 use crate::walk::{NumberIn, optional, required, row_with};
-use resh_setup::{Clients, Setup, SetupFault};
+use resh_setup::{Clients, Events, Plan, Setup, SetupFault};
 use serde_json::{Map, Value as Json};
 use std::alloc::Global;
 
@@ -97,6 +97,8 @@ fn rest_in(alloc: Global, maps: Maps, members: &Map<String, Json>) -> Result<Set
         clients,
         lanes,
         batch,
+        steps: Events::new(alloc),
+        plan: Plan::new(alloc),
         unbuilt: steps || plan,
     })
 }

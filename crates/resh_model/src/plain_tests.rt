@@ -227,6 +227,8 @@ fn setup_of(alloc: Global, row: &Json) -> Result<Setup, Fail> {
         clients: clients_of(alloc, row.get(2usize).ok_or("clients")?)?,
         lanes: 4,
         batch: 500,
+        steps: Sequence::new(alloc),
+        plan: Sequence::new(alloc),
         unbuilt: false,
     })
 }

@@ -45,6 +45,8 @@ fn setup_of(alloc: Global, names: &[&str]) -> Result<Setup, Fail> {
         clients,
         lanes: 1,
         batch: 500,
+        steps: Sequence::new(alloc),
+        plan: Sequence::new(alloc),
         unbuilt: false,
     })
 }

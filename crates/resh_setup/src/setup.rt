@@ -1,4 +1,6 @@
 use crate::client::Clients;
+use crate::event::Events;
+use crate::plan::Plan;
 use resh_chunks::ChunkMap;
 use resh_value::{Documents, Names, Sequence};
 
@@ -17,6 +19,9 @@ pub struct Setup {
     pub lanes: u32,
     /// The greatest number of entries of a batch, 1 to 500.
     pub batch: u32,
-    /// Whether the file has steps or a plan, none of which is built yet.
+    /// The file's steps, none of which is `Fail`.
+    pub steps: Events,
+    pub plan: Plan,
+    /// Whether the file has steps or a plan, which aren't read yet.
     pub unbuilt: bool,
 }
