@@ -8,7 +8,8 @@ use Rattle.serde_json.specs.declared.value.Value.{Value as Json}
 use Rattle.resh_value.specs.Names.{name_cmp, HasRisingNames}
 use Rattle.resh_value.specs.Outcome.{and_then}
 use Rattle.resh_value.specs.Paths.{to_name}
-use Rattle.resh_value.specs.FromJson.{Read, at_step, value_at, members_at}
+use Rattle.resh_value.specs.FromJson.{Read, value_at, members_at}
+use Rattle.resh_value.specs.Walk.{at_step}
 use Rattle.resh_value.specs.declared.value.Value.{Value}
 
 abbrev pub Entry : Type 0

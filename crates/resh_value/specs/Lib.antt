@@ -18,4 +18,5 @@ pub mod Outcome
 pub mod Paths
 pub mod Tags
 pub mod Text
+pub mod Walk
 pub mod Whole

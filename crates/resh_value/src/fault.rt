@@ -1,9 +1,25 @@
-ghost use Rattle.std.specs.Prelude.{◌≡◌, ◌≢◌, []};
+ghost use Rattle.std.specs.Prelude.{◌≡◌, ◌≢◌};
 
 use crate::memory::NoMemory;
-use crate::paths::{joined, path_to_name, path_to_place};
+use crate::paths::joined;
+use crate::walk_fault::WalkFault;
 use crate::words::Words;
 use std::alloc::{AllocError, AllocFailed, Global};
+
+/// What makes a JSON value no value or no document.
+#[derive(Debug, Drop, Clone, Copy, PartialEq, Eq)]
+pub enum ValueFaultKind {
+    /// A number that isn't a whole number of 64 bits.
+    NotWhole,
+    /// An object that stands for a value by its only name, with another content.
+    BadTag,
+    /// An array or object at level 33.
+    TooDeep,
+    /// An object with a name that begins with `$` and isn't a tag.
+    DollarName,
+    /// No object where a document is wanted.
+    NotDocument,
+}
 
 /// Why a JSON value is no value or no document, with the place as a JSON Pointer.
 #[derive(Debug, Drop)]
@@ -52,8 +68,23 @@ impl<T: Drop> From<AllocFailed<T>> for ValueFault {
 }
 
 impl ValueFault {
-    ghost use Rattle.resh_value.specs.FromJson.{under};
-    ghost use Rattle.resh_value.specs.Paths.{to_name, to_place};
+    ghost use Rattle.resh_value.specs.FromJson.{fault_of, under};
+
+    /// What a walk ended with, as it is answered.
+    pub fn of(fault: WalkFault<ValueFaultKind>) -> ValueFault
+        ensures { result ≡ fault_of fault }
+    {
+        match fault {
+            WalkFault::At { path, kind } => match kind {
+                ValueFaultKind::NotWhole => ValueFault::NotWhole { path },
+                ValueFaultKind::BadTag => ValueFault::BadTag { path },
+                ValueFaultKind::TooDeep => ValueFault::TooDeep { path },
+                ValueFaultKind::DollarName => ValueFault::DollarName { path },
+                ValueFaultKind::NotDocument => ValueFault::NotDocument { path },
+            },
+            WalkFault::NoMemory => ValueFault::NoMemory,
+        }
+    }
 
     /// The fault as it is seen from further out, with `step` before its path.
     pub fn under(self, alloc: Global, step: &Words) -> ValueFault
@@ -83,31 +114,4 @@ impl ValueFault {
             ValueFault::NoMemory => ValueFault::NoMemory,
         }
     }
-
-    /// The fault of an object's member, as it is seen from the object.
-    pub(crate) fn under_name(self, alloc: Global, name: &str) -> ValueFault
-        ensures { result ≢ ValueFault.NoMemory → result ≡ under (to_name name.now) self }
-    {
-        match path_to_name(alloc, &no_path(alloc), name) {
-            Ok(step) => self.under(alloc, &step),
-            Err(_) => ValueFault::NoMemory,
-        }
-    }
-
-    /// The fault of an array's item, as it is seen from the array.
-    pub(crate) fn under_place(self, alloc: Global, place: u64) -> ValueFault
-        ensures { result ≢ ValueFault.NoMemory → result ≡ under (to_place place) self }
-    {
-        match path_to_place(alloc, &no_path(alloc), place) {
-            Ok(step) => self.under(alloc, &step),
-            Err(_) => ValueFault::NoMemory,
-        }
-    }
-}
-
-/// The path to the value itself.
-pub(crate) fn no_path(alloc: Global) -> Words
-    ensures { result ≡ [] }
-{
-    Words::from_string(String::new(alloc))
 }

@@ -1,7 +1,8 @@
 use Rattle.std.proofs.Common.{◌≡◌, ◌+◌, [], ◌∷◌, ◌++◌, drop, sym, ap, ◌∙◌, arith, string_bytes}
 use Rattle.std.proofs.lemmas.List.{drop_more}
 use Rattle.serde_json.specs.View.{view, items_view, members_view}
-use Rattle.resh_value.specs.FromJson.{under, items_at, members_at}
+use Rattle.resh_value.specs.FromJson.{items_at, members_at}
+use Rattle.resh_value.specs.Walk.{under}
 use Rattle.resh_value.specs.Paths.{to_name}
 use Rattle.resh_value.proofs.WalkLemmas.{after, after_all, item_fault, member_read, member_fault}
 use Rattle.resh_value.proofs.RisingLemmas.{Entry, names_rise}
