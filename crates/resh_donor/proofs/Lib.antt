@@ -1,1 +1,1 @@
-pub mod Reaching
+mod Passing

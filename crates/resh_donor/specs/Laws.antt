@@ -1,18 +1,19 @@
 -- What holds of every donor.
 use Rattle.std.specs.Prelude.{◌≡◌, ◌≢◌, ◌≤◌, true, ◌⊎◌}
 use Rattle.resh_progress.specs.Kinds.{Kind, ToInstall, ToRelease}
+use Rattle.resh_progress.specs.Machines as machine
 use Rattle.resh_progress.specs.Tellings.{has}
-use Rattle.resh_donor.specs.Phases.{leads_to, place_of}
-use Rattle.resh_donor.specs.States.{State, after, may, IsReached}
+use Rattle.resh_donor.specs.Phases.{leads_to, next_phase, place_of}
+use Rattle.resh_donor.specs.States.{State, after, told_until, IsReached}
 use Rattle.resh_donor.specs.declared.phase.DonorPhase.TheVariants.{Done}
 
 -- after a message one of its kind changes nothing
 abbrev pub ARepeatChangesNothing : Type 0
-ARepeatChangesNothing = (state : State) (kind : Kind) → (has (after state kind).told kind ≡ true) × (after (after state kind) kind ≡ after state kind)
+ARepeatChangesNothing = machine.ARepeatChangesNothing next_phase
 
 -- a message leaves what was told of other kinds
 abbrev pub OtherKindsAreKept : Type 0
-OtherKindsAreKept = (state : State) (kind other : Kind) → other ≢ kind → has (after state kind).told other ≡ has state.told other
+OtherKindsAreKept = machine.OtherKindsAreKept next_phase
 
 -- the last phase is reached only by an install or a release
 abbrev pub OnlyEndsEnd : Type 0
@@ -20,10 +21,10 @@ OnlyEndsEnd = (state : State) (kind : Kind) → state.phase ≢ Done → (after 
 
 -- in the last phase no message moves
 abbrev pub TheEndIsKept : Type 0
-TheEndIsKept = (state : State) (kind : Kind) → state.phase ≡ Done → may state kind ≡ true → after state kind ≡ state
+TheEndIsKept = machine.TheEndIsKept next_phase Done
 
 abbrev pub PhasesNeverGoBack : Type 0
-PhasesNeverGoBack = (state : State) (kind : Kind) → place_of state.phase ≤ place_of (after state kind).phase
+PhasesNeverGoBack = machine.PhasesNeverGoBack next_phase place_of
 
 -- where a message came, the phase to which it leads is reached
 abbrev pub WhatWasToldIsPassed : Type 0
@@ -31,4 +32,4 @@ WhatWasToldIsPassed = (state : State) (kind : Kind) → IsReached state → has 
 
 -- a message that may come leads on to what a donor may come to
 abbrev pub ReachesOn : Type 0
-ReachesOn = (state : State) (kind : Kind) → may state kind ≡ true → IsReached state → IsReached (after state kind)
+ReachesOn = machine.ReachesOn next_phase Done told_until

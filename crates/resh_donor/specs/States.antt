@@ -1,26 +1,26 @@
 -- A donor's states: its phase, and what it was told.
-use Rattle.std.specs.Prelude.{◌≡◌, ◌≢◌, Bool, cond, ◌||◌, ◌⊎◌, is_some, unwrap_or}
-use Rattle.resh_progress.specs.Kinds.{Kind, ToPrepare, ToDonate, ToBlock, ToInstall, ToRelease}
-use Rattle.resh_progress.specs.Tellings.{has, nothing, told_too}
+use Rattle.std.specs.Prelude.{Bool}
+use Rattle.resh_progress.specs.Kinds.{Kind, ToPrepare, ToDonate, ToBlock, ToInstall}
+use Rattle.resh_progress.specs.Machines as machine
+use Rattle.resh_progress.specs.Tellings.{nothing, told_too}
 use Rattle.resh_progress.specs.declared.told.Told.{Told}
 use Rattle.resh_donor.specs.Phases.{next_phase}
 use Rattle.resh_donor.specs.declared.phase.DonorPhase.{DonorPhase}
 use Rattle.resh_donor.specs.declared.phase.DonorPhase.TheVariants.{Unused, PreparingToDonate, Donating, BlockingWrites, Done}
 
-pub record State : Type 0 where
-  pub phase : DonorPhase
-  pub told : Told
+abbrev pub State : Type 0
+State = machine.State DonorPhase
 
 abbrev pub at_first : State
-at_first = record { phase = Unused; told = nothing }
+at_first = machine.at_first Unused
 
 -- a message may come that came before, or that moves the phase
 abbrev pub may : State → Kind → Bool
-may state kind = has state.told kind || is_some (next_phase state.phase kind)
+may = machine.may next_phase
 
 -- a message that came before changes nothing
 abbrev pub after : State → Kind → State
-after state kind = cond (has state.told kind) state (record { phase = unwrap_or (next_phase state.phase kind) state.phase; told = told_too state.told kind })
+after = machine.after next_phase
 
 -- what was told on the way to a phase, where no release came
 abbrev pub told_until : DonorPhase → Told
@@ -31,12 +31,9 @@ told_until BlockingWrites = told_too (told_too (told_too nothing ToPrepare) ToDo
 told_until Done = told_too (told_too (told_too (told_too nothing ToPrepare) ToDonate) ToBlock) ToInstall
 
 -- a release came in a phase before the last, and nothing later did
-pub record IsReleased (state : State) : Type 0 where
-  pub phase : DonorPhase
-  pub before : phase ≢ Done
-  pub done : state.phase ≡ Done
-  pub told : state.told ≡ told_too (told_until phase) ToRelease
+abbrev pub IsReleased : State → Type 0
+IsReleased = machine.IsReleased Done told_until
 
 -- what a donor may have come to
 abbrev pub IsReached : State → Type 0
-IsReached state = (state.told ≡ told_until state.phase) ⊎ IsReleased state
+IsReached = machine.IsReached Done told_until

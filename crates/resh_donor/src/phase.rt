@@ -1,8 +1,7 @@
-ghost use Rattle.std.specs.Prelude.{◌≡◌};
-ghost use Rattle.resh_progress.specs.Kinds.{kind_of};
-ghost use Rattle.resh_donor.specs.Phases.{next_phase};
+ghost use Rattle.std.specs.Prelude.{refl};
+ghost use Rattle.std.proofs.Common.{rules};
 
-use resh_progress::Message;
+use resh_progress::{Message, Phases};
 
 /// What a donor does; the phases come in this order.
 #[derive(Debug, Drop, Clone, Copy, PartialEq, Eq)]
@@ -14,11 +13,35 @@ pub enum DonorPhase {
     Done,
 }
 
-impl DonorPhase {
-    /// The phase to which a message moves; `None` exactly where it moves nothing.
-    pub(crate) fn next(self, message: &Message) -> Option<DonorPhase>
-        ensures { result ≡ next_phase self (kind_of message.now) }
-    {
+impl Phases for DonorPhase {
+    ghost use Rattle.resh_donor.specs.declared.phase.DonorPhase.{DonorPhase};
+    ghost use Rattle.resh_donor.specs.Phases.{next_phase, place_of};
+    ghost use Rattle.resh_donor.specs.States.{told_until};
+    ghost use Rattle.resh_donor.specs.lemmas.Going.{on_going};
+
+    ghost first = { DonorPhase.Unused };
+
+    ghost last = { DonorPhase.Done };
+
+    ghost next_phase = { next_phase };
+
+    ghost place_of = { place_of };
+
+    ghost told_until = { told_until };
+
+    ghost rises = { λ phase later kind moves. Prim.search (rules, moves) };
+
+    ghost starts = { refl };
+
+    ghost goes_on = { on_going };
+
+    ghost ends = { λ kind. Prim.search rules };
+
+    fn first() -> DonorPhase {
+        Self::Unused
+    }
+
+    fn next(self, message: &Message) -> Option<DonorPhase> {
         match self {
             DonorPhase::Unused => match message {
                 Message::Prepare => Some(DonorPhase::PreparingToDonate),

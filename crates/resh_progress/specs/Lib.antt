@@ -1,3 +1,4 @@
 pub mod Kinds
+pub mod Machines
 pub mod Start
 pub mod Tellings

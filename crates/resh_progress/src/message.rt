@@ -30,33 +30,3 @@ impl Message {
         }
     }
 }
-
-#[cfg(test)]
-mod tests {
-    use super::*;
-    use crate::told::Told;
-    use std::test::Fail;
-
-    #[test]
-    fn messages_are_told_by_kind(rt: HostRuntime) -> Result<(), Fail> {
-        let messages = [
-            Message::Prepare,
-            Message::Donate { fetch_time: 4 },
-            Message::Block,
-            Message::Install,
-            Message::Release,
-        ];
-        for (place, message) in messages.iter().enumerate() {
-            let mut told = Told::nothing();
-            told.add(message);
-            for (other_place, other) in messages.iter().enumerate() {
-                assert_eq!(rt; message.is_like(other), place == other_place);
-                assert_eq!(rt; told.has(other), place == other_place);
-            }
-        }
-        let later = Message::Donate { fetch_time: 5 };
-        assert!(rt; later.is_like(&messages[1]));
-        assert_ne!(rt; later, messages[1]);
-        Ok(())
-    }
-}

@@ -1,8 +1,7 @@
-ghost use Rattle.std.specs.Prelude.{◌≡◌};
-ghost use Rattle.resh_progress.specs.Kinds.{kind_of};
-ghost use Rattle.resh_recip.specs.Phases.{next_phase};
+ghost use Rattle.std.specs.Prelude.{refl};
+ghost use Rattle.std.proofs.Common.{rules};
 
-use resh_progress::Message;
+use resh_progress::{Message, Phases};
 
 /// What a recipient does; the phases come in this order.
 #[derive(Debug, Drop, Clone, Copy, PartialEq, Eq)]
@@ -14,11 +13,35 @@ pub enum RecipientPhase {
     Done,
 }
 
-impl RecipientPhase {
-    /// The phase to which a message moves; `None` exactly where it moves nothing.
-    pub(crate) fn next(self, message: &Message) -> Option<RecipientPhase>
-        ensures { result ≡ next_phase self (kind_of message.now) }
-    {
+impl Phases for RecipientPhase {
+    ghost use Rattle.resh_recip.specs.declared.phase.RecipientPhase.{RecipientPhase};
+    ghost use Rattle.resh_recip.specs.Phases.{next_phase, place_of};
+    ghost use Rattle.resh_recip.specs.States.{told_until};
+    ghost use Rattle.resh_recip.specs.lemmas.Going.{on_going};
+
+    ghost first = { RecipientPhase.AwaitingFetchTime };
+
+    ghost last = { RecipientPhase.Done };
+
+    ghost next_phase = { next_phase };
+
+    ghost place_of = { place_of };
+
+    ghost told_until = { told_until };
+
+    ghost rises = { λ phase later kind moves. Prim.search (rules, moves) };
+
+    ghost starts = { refl };
+
+    ghost goes_on = { on_going };
+
+    ghost ends = { λ kind. Prim.search rules };
+
+    fn first() -> RecipientPhase {
+        Self::AwaitingFetchTime
+    }
+
+    fn next(self, message: &Message) -> Option<RecipientPhase> {
         match self {
             RecipientPhase::AwaitingFetchTime => match message {
                 Message::Donate { .. } => Some(RecipientPhase::Cloning),

@@ -1,47 +1,13 @@
--- What a recipient may have come to, move by move.
+-- What a recipient may have come to: by its own moves, and what it was told on the way.
 use Rattle.std.specs.Prelude.{◌≡◌, ◌≤◌, true, false, refl}
 use Rattle.std.proofs.Common.{rules, ap, sym, ◌∙◌, subst, inl, inr}
-use Rattle.resh_progress.specs.Kinds.{Kind, ToPrepare, ToDonate, ToBlock, ToInstall, ToRelease}
+use Rattle.resh_progress.specs.Kinds.{Kind, ToPrepare, ToBlock, ToRelease}
 use Rattle.resh_progress.specs.Tellings.{told_too}
 use Rattle.resh_progress.specs.declared.told.Told.{Told}
 use Rattle.resh_recip.specs.Phases.{cloned_phase, consistent_phase, place_of}
-use Rattle.resh_recip.specs.States.{State, after, cloned, consistent, may, told_until, IsReached}
+use Rattle.resh_recip.specs.States.{State, cloned, consistent, may, told_until, IsReached}
 use Rattle.resh_recip.specs.declared.phase.RecipientPhase.{RecipientPhase}
 use Rattle.resh_recip.specs.declared.phase.RecipientPhase.TheVariants.{AwaitingFetchTime, Cloning, Applying, StrictConsistency, Done}
-
--- a phase that was reached without a release
-abbrev going : RecipientPhase → State
-going phase = record { phase = phase; told = told_until phase }
-
-on_going : (phase : RecipientPhase) (kind : Kind) → may (going phase) kind ≡ true → IsReached (after (going phase) kind)
-on_going AwaitingFetchTime ToDonate m = inl refl
-on_going AwaitingFetchTime ToRelease m = inr (record { phase = AwaitingFetchTime; before = search rules; done = refl; told = refl })
-on_going AwaitingFetchTime kind m = search (rules, m)
-on_going Cloning ToDonate m = inl refl
-on_going Cloning ToRelease m = inr (record { phase = Cloning; before = search rules; done = refl; told = refl })
-on_going Cloning kind m = search (rules, m)
-on_going Applying ToDonate m = inl refl
-on_going Applying ToRelease m = inr (record { phase = Applying; before = search rules; done = refl; told = refl })
-on_going Applying kind m = search (rules, m)
-on_going StrictConsistency ToDonate m = inl refl
-on_going StrictConsistency ToInstall m = inl refl
-on_going StrictConsistency ToRelease m = inr (record { phase = StrictConsistency; before = search rules; done = refl; told = refl })
-on_going StrictConsistency kind m = search (rules, m)
-on_going Done ToDonate m = inl refl
-on_going Done ToInstall m = inl refl
-on_going Done kind m = search (rules, m)
-
--- in the last phase no message moves
-pub kept_at_end : (state : State) (kind : Kind) → state.phase ≡ Done → may state kind ≡ true → after state kind ≡ state
-kept_at_end state kind done m = search (rules, done, m)
-
-pub reached_after : (state : State) (kind : Kind) → may state kind ≡ true → IsReached state → IsReached (after state kind)
-reached_after state kind m r =
-    elim r as (λ _. IsReached (after state kind)) [
-      | inl e ↦ (let P : Told → Type 0 = λ told. may (record { phase = state.phase; told = told }) kind ≡ true → IsReached (after (record { phase = state.phase; told = told }) kind) in
-          subst P (sym e) (on_going state.phase kind) m)
-      | inr released ↦ subst IsReached (sym (kept_at_end state kind released.done m)) r
-    ]
 
 until_cloned : (phase : RecipientPhase) → told_until phase ≡ told_until (cloned_phase phase)
 until_cloned AwaitingFetchTime = refl
