@@ -17,7 +17,9 @@ OtherKindsAreKept = machine.OtherKindsAreKept next_phase
 
 -- the last phase is reached only by an install or a release
 abbrev pub OnlyEndsEnd : Type 0
-OnlyEndsEnd = (state : State) (kind : Kind) → state.phase ≢ Done → (after state kind).phase ≡ Done → (kind ≡ ToInstall) ⊎ (kind ≡ ToRelease)
+OnlyEndsEnd =
+    (state : State) (kind : Kind) → state.phase ≢ Done → (after state kind).phase ≡ Done
+    → (kind ≡ ToInstall) ⊎ (kind ≡ ToRelease)
 
 -- in the last phase no message moves
 abbrev pub TheEndIsKept : Type 0
@@ -28,7 +30,9 @@ PhasesNeverGoBack = machine.PhasesNeverGoBack next_phase place_of
 
 -- where a message came, the phase to which it leads is reached
 abbrev pub WhatWasToldIsPassed : Type 0
-WhatWasToldIsPassed = (state : State) (kind : Kind) → IsReached state → has state.told kind ≡ true → place_of (leads_to kind) ≤ place_of state.phase
+WhatWasToldIsPassed =
+    (state : State) (kind : Kind) → IsReached state → has state.told kind ≡ true
+    → place_of (leads_to kind) ≤ place_of state.phase
 
 -- a message that may come leads on to what a donor may come to
 abbrev pub ReachesOn : Type 0

@@ -13,7 +13,8 @@ pub record State (Phase : Type 0) : Type 0 where
 -- a state is stored as the pair of its parts
 abbrev pub state_code : {Phase : Type 0} → Coded Phase → Coded (State Phase)
 state_code {Phase} code =
-    code_by (Phase × Told) (coded× code told.the_row.coded) (λ s. (s.phase, s.told)) (λ p. record { phase = p.0; told = p.1 }) (λ _. refl)
+    code_by (Phase × Told) (coded× code told.the_row.coded) (λ s. (s.phase, s.told))
+    (λ p. record { phase = p.0; told = p.1 }) (λ _. refl)
 
 -- the phase to which a message moves, where it moves
 abbrev pub Next : Type 0 → Type 0
@@ -35,7 +36,8 @@ module _ {Phase : Type 0} where
   -- a message that came before changes nothing
   abbrev pub after : Next Phase → State Phase → Kind → State Phase
   after next state kind =
-      cond (has state.told kind) state (record { phase = unwrap_or (next state.phase kind) state.phase; told = told_too state.told kind })
+      cond (has state.told kind) state
+      (record { phase = unwrap_or (next state.phase kind) state.phase; told = told_too state.told kind })
 
   -- a phase that was reached without a release
   abbrev pub going : Way Phase → Phase → State Phase
@@ -54,7 +56,8 @@ module _ {Phase : Type 0} where
 
   -- no message moves to an earlier phase
   abbrev pub Rises : Next Phase → (Phase → ℕ) → Type 0
-  Rises next place_of = (phase later : Phase) (kind : Kind) → next phase kind ≡ Some later → place_of phase ≤ place_of later
+  Rises next place_of =
+      (phase later : Phase) (kind : Kind) → next phase kind ≡ Some later → place_of phase ≤ place_of later
 
   -- a message that may come, where no release came, leads on to what the machine may come to
   abbrev pub GoesOn : Next Phase → Phase → Way Phase → Type 0
@@ -65,20 +68,25 @@ module _ {Phase : Type 0} where
   -- after a message one of its kind changes nothing
   abbrev pub ARepeatChangesNothing : Next Phase → Type 0
   ARepeatChangesNothing next =
-      (state : State Phase) (kind : Kind) → (has (after next state kind).told kind ≡ true) × (after next (after next state kind) kind ≡ after next state kind)
+      (state : State Phase) (kind : Kind)
+      → (has (after next state kind).told kind ≡ true)
+      × (after next (after next state kind) kind ≡ after next state kind)
 
   -- a message leaves what was told of other kinds
   abbrev pub OtherKindsAreKept : Next Phase → Type 0
   OtherKindsAreKept next =
-      (state : State Phase) (kind other : Kind) → other ≢ kind → has (after next state kind).told other ≡ has state.told other
+      (state : State Phase) (kind other : Kind) → other ≢ kind
+      → has (after next state kind).told other ≡ has state.told other
 
   abbrev pub PhasesNeverGoBack : Next Phase → (Phase → ℕ) → Type 0
-  PhasesNeverGoBack next place_of = (state : State Phase) (kind : Kind) → place_of state.phase ≤ place_of (after next state kind).phase
+  PhasesNeverGoBack next place_of =
+      (state : State Phase) (kind : Kind) → place_of state.phase ≤ place_of (after next state kind).phase
 
   -- in the last phase no message moves
   abbrev pub TheEndIsKept : Next Phase → Phase → Type 0
   TheEndIsKept next last =
-      (state : State Phase) (kind : Kind) → state.phase ≡ last → may next state kind ≡ true → after next state kind ≡ state
+      (state : State Phase) (kind : Kind) → state.phase ≡ last → may next state kind ≡ true
+      → after next state kind ≡ state
 
   -- a message that may come leads on to what the machine may come to
   abbrev pub ReachesOn : Next Phase → Phase → Way Phase → Type 0

@@ -30,8 +30,8 @@ impl Kept {
     {
         Ok(Kept {
             place: self.place,
-            lanes: copy_counts(alloc, &self.lanes)?,
-            last_id: copy_id(alloc, &self.last_id)?,
+            lanes: self.lanes.copy()?,
+            last_id: Copied::copied(&self.last_id, alloc)?,
             mark: self.mark,
             read_out: self.read_out,
             finished: self.finished,
@@ -42,25 +42,5 @@ impl Kept {
 impl Copied for Kept {
     fn copied(&self, alloc: Global) -> Result<Kept, NoMemory> {
         self.copy(alloc)
-    }
-}
-
-fn copy_counts(alloc: Global, counts: &Counts) -> Result<Counts, NoMemory>
-    ensures { IfOk result (λ copy. copy ≡ counts.now) }
-{
-    let counts = counts.as_slice();
-    let mut copy = Vec::with_capacity(alloc, counts.len())?;
-    for count in counts {
-        copy.push(*count)?;
-    }
-    Ok(Sequence::from_vec(copy))
-}
-
-fn copy_id(alloc: Global, id: &Option<Value>) -> Result<Option<Value>, NoMemory>
-    ensures { IfOk result (λ copy. copy ≡ id.now) }
-{
-    match id {
-        None => Ok(None),
-        Some(value) => Ok(Some(value.copy(alloc)?)),
     }
 }

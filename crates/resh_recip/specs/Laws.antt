@@ -17,7 +17,8 @@ OtherKindsAreKept = machine.OtherKindsAreKept next_phase
 
 -- a recipient's own moves are made once
 abbrev pub OwnMovesAreMadeOnce : Type 0
-OwnMovesAreMadeOnce = (state : State) → (cloned (cloned state) ≡ cloned state) × (consistent (consistent state) ≡ consistent state)
+OwnMovesAreMadeOnce =
+    (state : State) → (cloned (cloned state) ≡ cloned state) × (consistent (consistent state) ≡ consistent state)
 
 -- a recipient's own moves may be made from a phase on
 pub record OwnMovesMayBeMade : Type 0 where
@@ -27,7 +28,8 @@ pub record OwnMovesMayBeMade : Type 0 where
 -- the last phase is reached only by an install or a release
 pub record OnlyEndsEnd : Type 0 where
   pub by_message :
-      (state : State) (kind : Kind) → state.phase ≢ Done → (after state kind).phase ≡ Done → (kind ≡ ToInstall) ⊎ (kind ≡ ToRelease)
+      (state : State) (kind : Kind) → state.phase ≢ Done → (after state kind).phase ≡ Done
+      → (kind ≡ ToInstall) ⊎ (kind ≡ ToRelease)
   pub by_clone : (state : State) → state.phase ≢ Done → (cloned state).phase ≢ Done
   pub by_consistency : (state : State) → state.phase ≢ Done → (consistent state).phase ≢ Done
 
@@ -48,7 +50,8 @@ OnlyThreeAreTold = (state : State) → IsReached state → (may state ToPrepare 
 
 -- where a donation came it clones or has cloned, and an install or a release ended it
 pub record WhatWasToldIsPassed : Type 0 where
-  pub donate : (state : State) → IsReached state → has state.told ToDonate ≡ true → place_of Cloning ≤ place_of state.phase
+  pub donate :
+      (state : State) → IsReached state → has state.told ToDonate ≡ true → place_of Cloning ≤ place_of state.phase
   pub install : (state : State) → IsReached state → has state.told ToInstall ≡ true → state.phase ≡ Done
   pub release : (state : State) → IsReached state → has state.told ToRelease ≡ true → state.phase ≡ Done
 

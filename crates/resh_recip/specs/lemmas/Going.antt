@@ -12,17 +12,37 @@ going = machine.going told_until
 
 pub on_going : (phase : RecipientPhase) (kind : Kind) → may (going phase) kind ≡ true → IsReached (after (going phase) kind)
 on_going AwaitingFetchTime ToDonate m = inl refl
-on_going AwaitingFetchTime ToRelease m = inr (record { phase = AwaitingFetchTime; before = search rules; done = refl; told = refl })
+on_going AwaitingFetchTime ToRelease m = inr (record {
+  phase = AwaitingFetchTime;
+  before = search rules;
+  done = refl;
+  told = refl;
+})
 on_going AwaitingFetchTime kind m = search (rules, m)
 on_going Cloning ToDonate m = inl refl
-on_going Cloning ToRelease m = inr (record { phase = Cloning; before = search rules; done = refl; told = refl })
+on_going Cloning ToRelease m = inr (record {
+  phase = Cloning;
+  before = search rules;
+  done = refl;
+  told = refl;
+})
 on_going Cloning kind m = search (rules, m)
 on_going Applying ToDonate m = inl refl
-on_going Applying ToRelease m = inr (record { phase = Applying; before = search rules; done = refl; told = refl })
+on_going Applying ToRelease m = inr (record {
+  phase = Applying;
+  before = search rules;
+  done = refl;
+  told = refl;
+})
 on_going Applying kind m = search (rules, m)
 on_going StrictConsistency ToDonate m = inl refl
 on_going StrictConsistency ToInstall m = inl refl
-on_going StrictConsistency ToRelease m = inr (record { phase = StrictConsistency; before = search rules; done = refl; told = refl })
+on_going StrictConsistency ToRelease m = inr (record {
+  phase = StrictConsistency;
+  before = search rules;
+  done = refl;
+  told = refl;
+})
 on_going StrictConsistency kind m = search (rules, m)
 on_going Done ToDonate m = inl refl
 on_going Done ToInstall m = inl refl
