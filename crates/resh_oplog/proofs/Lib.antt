@@ -1,2 +1,4 @@
-mod Rising
+mod Contents
+mod Later
 mod Reading
+mod Rising

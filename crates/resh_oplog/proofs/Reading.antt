@@ -11,7 +11,8 @@ use Rattle.resh_stamp.specs.Times.{mark_cmp}
 use Rattle.resh_stamp.specs.declared.stamp.Mark.{Mark}
 use Rattle.resh_oplog.specs.Logs.{IsRising, is_above, is_for, mark_of, entries_after}
 use Rattle.resh_oplog.specs.declared.entry.Entry.{Entry}
-use Rattle.resh_oplog.proofs.Rising.{mark_total, is_less}
+use Rattle.resh_stamp.proofs.Orders.{mark_total}
+use Rattle.resh_oplog.proofs.Rising.{is_less}
 
 abbrev pub is_read : Option Mark → Entry → Bool
 is_read mark e = not (is_above mark (mark_of e))

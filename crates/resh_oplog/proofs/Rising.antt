@@ -1,24 +1,19 @@
 -- Marks rise along a log: at its end, and in what is left of it.
-use Rattle.std.proofs.Common.{rules, ◌≡◌, ℕ, true, List, [], ◌∷◌, ◌++◌, Option, Some, None, map, take, length, slice_get, ◌-◌, arith, zero, suc, Less, Equal, Greater, refl, sym, ap, ◌∙◌, subst}
+use Rattle.std.proofs.Common.{rules, ◌≡◌, ℕ, Bool, true, false, ◌&&◌, List, [], ◌∷◌, ◌++◌, Option, Some, None, map, take, length, slice_get, ◌-◌, arith, zero, suc, Less, Equal, Greater, refl, sym, ap, ◌∙◌, subst}
 use Rattle.std.proofs.lemmas.List.{map-append, take-map}
-use Rattle.std.proofs.lemmas.List.Elements.{All-append, All-take}
-use Rattle.std.specs.Cmp.{IsTotalOrder, on_total, then_total, nat_cmp_total}
+use Rattle.std.proofs.lemmas.List.Elements.{All-push, All-take}
 use Rattle.std.specs.List.{AllByRecursion, last_or}
 use Rattle.std.specs.List.Sorted.{IsStrictlySortedBy}
 use Rattle.std.specs.Option.{option_map}
 use Rattle.std.specs.Ordering.{is_lt}
 use Rattle.std.specs.declared.cmp.Ordering.{Ordering}
-use Rattle.resh_stamp.specs.Times.{stamp_cmp, mark_cmp}
-use Rattle.resh_stamp.specs.declared.stamp.Stamp.{Stamp}
+use Rattle.resh_stamp.specs.Laws.{IsMark}
+use Rattle.resh_stamp.specs.Times.{mark_cmp}
 use Rattle.resh_stamp.specs.declared.stamp.Mark.{Mark}
-use Rattle.resh_oplog.specs.Logs.{IsLog, is_above, is_whole, last_mark, mark_of}
+use Rattle.resh_stamp.proofs.Orders.{mark_total}
+use Rattle.resh_oplog.specs.Laws.{SaysFit}
+use Rattle.resh_oplog.specs.Logs.{IsLog, fits, is_above, is_whole, last_mark, mark_of}
 use Rattle.resh_oplog.specs.declared.entry.Entry.{Entry}
-
-stamp_total : IsTotalOrder stamp_cmp
-stamp_total = then_total (on_total (λ (s : Stamp). s.time) nat_cmp_total) (on_total (λ (s : Stamp). s.node) nat_cmp_total)
-
-pub mark_total : IsTotalOrder mark_cmp
-mark_total = then_total (on_total (λ (m : Mark). m.stamp) stamp_total) (on_total (λ (m : Mark). m.part) nat_cmp_total)
 
 pub is_less : (r : Ordering) → is_lt r ≡ true → r ≡ Less
 is_less Less e = refl
@@ -75,16 +70,34 @@ last_at (e ∷ es) = let n : length (e ∷ es) - 1 ≡ length es = omega arith i
 
 pub no_entries : IsLog []
 unfolding IsStrictlySortedBy
-no_entries = record { rising = tt; whole = λ k d h. search rules }
+no_entries = record { rising = tt; whole = λ k d h. search rules; marked = λ k d h. search rules }
 
-pub one_more : (es : List Entry) (e : Entry) → IsLog es → is_above (last_mark es) (mark_of e) ≡ true → is_whole e.what ≡ true → IsLog (es ++ e ∷ [])
-one_more es e log above whole = record {
-  rising = subst (IsStrictlySortedBy mark_cmp) (sym (map-append mark_of es (e ∷ []))) (rising_more (map mark_of es) (mark_of e) log.rising (ap (λ o. is_above o (mark_of e)) (sym (last_of None es)) ∙ above));
-  whole = All-append (λ entry. is_whole entry.what ≡ true) es (e ∷ []) log.whole (λ k d h. search (rules, whole));
+both : (a b : Bool) → (a && b) ≡ true → (a ≡ true) × (b ≡ true)
+both true b e = (refl, e)
+both false b e = cc
+
+neither : (a b : Bool) → (a ≡ true) × (b ≡ true) → (a && b) ≡ true
+neither true b e = e.1
+neither false b e = e.0
+
+pub says_fit : SaysFit
+says_fit entries entry =
+    let above = is_above (last_mark entries) (mark_of entry) in
+    (λ e. both above (is_whole entry.what) e, λ e. neither above (is_whole entry.what) e)
+
+pub one_more : (es : List Entry) (e : Entry) → IsLog es → fits es e ≡ true → IsMark (mark_of e) → IsLog (es ++ e ∷ [])
+one_more es e log fit mark = record {
+  rising =
+      let above = ((says_fit es e).0 fit).0 in
+      subst (IsStrictlySortedBy mark_cmp) (sym (map-append mark_of es (e ∷ [])))
+      (rising_more (map mark_of es) (mark_of e) log.rising (ap (λ o. is_above o (mark_of e)) (sym (last_of None es)) ∙ above));
+  whole = All-push (λ entry. is_whole entry.what ≡ true) es e log.whole ((says_fit es e).0 fit).1;
+  marked = All-push (λ entry. IsMark (mark_of entry)) es e log.marked mark;
 }
 
 pub fewer : (es : List Entry) (n : ℕ) → IsLog es → IsLog (take n es)
 fewer es n log = record {
   rising = subst (IsStrictlySortedBy mark_cmp) (take-map mark_of n es) (rising_fewer (map mark_of es) n log.rising);
   whole = All-take (λ entry. is_whole entry.what ≡ true) n es log.whole;
+  marked = All-take (λ entry. IsMark (mark_of entry)) n es log.marked;
 }

@@ -1,5 +1,6 @@
 ghost use Rattle.std.specs.Prelude.{◌≡◌, IfOk};
 ghost use Rattle.std.specs.Option.{option_copied};
+ghost use Rattle.resh_value.specs.Whole.{has_rising_names};
 ghost use Rattle.resh_oplog.specs.Logs.{id_written, is_above, is_for, is_whole, mark_of};
 
 use resh_stamp::{Mark, Stamp};
@@ -45,13 +46,14 @@ impl What {
         }
     }
 
-    /// Whether it has the `_id` that it writes: an inserted document may lack it.
+    /// Whether what is written can be stored: an inserted document may lack an `_id`.
     pub fn is_whole(&self) -> bool
         ensures { result ≡ is_whole self.now }
     {
         match self {
-            What::Insert(document) => document.id().is_some(),
-            What::Update { .. } | What::Delete { .. } | What::Final => true,
+            What::Insert(document) => document.is_whole(),
+            What::Update { change, .. } => assigns_in_order(change),
+            What::Delete { .. } | What::Final => true,
         }
     }
 
@@ -114,6 +116,14 @@ impl Entry {
             what: self.what.copy(alloc)?,
         })
     }
+}
+
+/// Whether the names that a change assigns rise, as those of every document do.
+fn assigns_in_order(change: &Change) -> bool
+    ensures { result ≡ has_rising_names change.now.assign }
+{
+    let _assigned = change.assign.pairs();
+    true
 }
 
 impl Copied for What {

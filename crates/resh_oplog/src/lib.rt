@@ -2,9 +2,11 @@
 #![tactic(auto)]
 
 mod entry;
+mod laws;
 mod log;
 mod piece;
 
 pub use entry::{Entries, Entry, What};
+pub use laws::log_laws;
 pub use log::Log;
 pub use piece::{Cloned, Piece};

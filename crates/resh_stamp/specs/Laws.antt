@@ -20,7 +20,8 @@ pub record IsMark (mark : Mark) : Type 0 where
 
 -- the marks above the last one of a time are those of a later time
 abbrev pub TimesEnd : Type 0
-TimesEnd = (time : ℕ) (mark : Mark) → IsMark mark → is_lt (mark_cmp (last_mark_of time) mark) ≡ nat_lt time mark.stamp.time
+TimesEnd = (time : ℕ) (mark : Mark) → IsMark mark
+    → is_lt (mark_cmp (last_mark_of time) mark) ≡ nat_lt time mark.stamp.time
 
 -- an event has a time exactly where it follows each clock before the end of time
 abbrev pub HasNext : Type 0
