@@ -6,7 +6,7 @@ use Rattle.std.proofs.Math.Seq.{take-length}
 use Rattle.std.proofs.Math.Dec.{ltb}
 use Rattle.std.specs.List.{position_or_len}
 use Rattle.resh_oplog.specs.declared.entry.Entry.{Entry}
-use Rattle.resh_fetcher.specs.Items.{is_final, up_to_final}
+use Rattle.resh_feed.specs.Items.{is_final, up_to_final}
 
 abbrev place : List Entry → ℕ
 place entries = position_or_len (λ entry. is_final entry.what) entries

@@ -11,16 +11,16 @@ use Rattle.resh_oplog.specs.declared.entry.Entry.{Entry}
 use Rattle.resh_progress.specs.Start.{start}
 use Rattle.resh_progress.specs.declared.kept.Kept.{Kept}
 use Rattle.resh_progress.specs.contracts.kept.Kept as kept
-use Rattle.resh_fetcher.specs.Items.{Document, AreWhole, cloned_item, fetched_item, last_id_of, last_mark_of, past_all, up_to_final, has_final}
+use Rattle.resh_feed.specs.Items.{Document, AreWhole, cloned_item, fetched_item, last_id_of, last_mark_of, past_all, up_to_final, has_final}
 use Rattle.resh_fetcher.specs.declared.batch.Batch.{Batch}
 use Rattle.resh_fetcher.specs.declared.fetched.Fetched.{Fetched}
 use Rattle.resh_fetcher.specs.declared.fetched.Fetched.TheVariants.{Got, Nothing}
-use Rattle.resh_fetcher.specs.declared.item.Item.{Item}
+use Rattle.resh_feed.specs.declared.item.Item.{Item}
 use Rattle.resh_fetcher.specs.declared.item.Out.{Out}
-use Rattle.resh_fetcher.specs.declared.item.Reading.{Reading}
-use Rattle.resh_fetcher.specs.contracts.item.Item as item
+use Rattle.resh_feed.specs.declared.item.Reading.{Reading}
+use Rattle.resh_feed.specs.contracts.item.Item as item
 use Rattle.resh_fetcher.specs.contracts.item.Out as out
-use Rattle.resh_fetcher.specs.contracts.item.Reading as reading
+use Rattle.resh_feed.specs.contracts.item.Reading as reading
 
 -- a link
 pub record LinkOf : Type 0 where

@@ -2,10 +2,10 @@
 
 ghost use Rattle.std.specs.Prelude.{◌≡◌, ◌≤◌, map, take, drop, length, IfOk};
 ghost use Rattle.resh_value.specs.Lookup.{id_of};
-ghost use Rattle.resh_fetcher.specs.Items.{cloned_item, fetched_item, has_final, last_id_of, last_mark_of, past_all, up_to_final};
+ghost use Rattle.resh_feed.specs.Items.{cloned_item, fetched_item, has_final, last_id_of, last_mark_of, past_all, up_to_final};
 
 use crate::batch::Whats;
-use crate::item::{After, Item, Reading};
+use resh_feed::{After, Item, Reading};
 use resh_oplog::{Entries, Entry, What};
 use resh_stamp::Mark;
 use resh_value::{Document, Documents, NoMemory, Sequence, Value};

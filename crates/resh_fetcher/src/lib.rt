@@ -11,5 +11,5 @@ mod tests;
 
 pub use batch::{Batch, Whats};
 pub use fetched::Fetched;
-pub use item::{After, Item, Out, Reading};
+pub use item::Out;
 pub use link::Link;

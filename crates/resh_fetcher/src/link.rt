@@ -3,16 +3,17 @@ ghost use Rattle.std.specs.List.{All};
 ghost use Rattle.std.specs.Option.{option_copied, option_map};
 ghost use Rattle.resh_value.specs.Lookup.{has_id};
 ghost use Rattle.resh_oplog.specs.Logs.{is_whole};
-ghost use Rattle.resh_fetcher.specs.Items.{AreWhole, up_to_final};
+ghost use Rattle.resh_feed.specs.Items.{AreWhole, up_to_final};
 ghost use Rattle.resh_fetcher.specs.Links.{batch_kept, closed, cut, end_of_places, ends, failed, fresh, gone_back, is_cloned, last_id, mark_read, next_entries, sent_out, started, told_of, with_cloned, with_fetched, with_items};
 
 use crate::batch::Batch;
 use crate::fetched::Fetched;
-use crate::item::{Item, Out, Reading};
+use crate::item::Out;
 use crate::items::{
     cloned_items, cut_behind_final, fetched_items, first_whats, has_final, last_id_of,
     last_mark_of, take_first,
 };
+use resh_feed::{Item, Reading};
 use resh_oplog::{Cloned, Entries, Log, What};
 use resh_progress::{Counts, Kept, Progress};
 use resh_stamp::{Mark, Stamp};

@@ -4,8 +4,8 @@ use Rattle.std.proofs.lemmas.List.{take_all, take_more}
 use Rattle.std.proofs.lemmas.List.Sums.{fold-append}
 use Rattle.std.proofs.lemmas.Option.{none-some, slice_get-map, slice_get_cases, slice_get_within, get_or_from_slice_get}
 use Rattle.resh_oplog.specs.declared.entry.What.{What}
-use Rattle.resh_fetcher.specs.declared.item.Item.{Item}
-use Rattle.resh_split.specs.Lanes.{counted, counts_after, item_lane}
+use Rattle.resh_feed.specs.declared.item.Item.{Item}
+use Rattle.resh_feed.specs.Lanes.{counted, counts_after, item_lane}
 
 took : {X : Type 0} (xs : List X) (i : ℕ) (x : X) → slice_get xs i ≡ Some x → take (i + 1) xs ≡ take i xs ++ x ∷ []
 took xs i x h = take_more xs i x (slice_get_within xs i x h) ∙ ap (λ y. take i xs ++ y ∷ []) (get_or_from_slice_get xs i x x h)

@@ -11,7 +11,7 @@ use Rattle.resh_oplog.specs.Logs.{id_written}
 use Rattle.resh_oplog.specs.declared.entry.What.{What}
 use Rattle.resh_oplog.specs.declared.piece.Piece.{Piece}
 use Rattle.resh_split.proofs.Counting.{counts_behind}
-use Rattle.resh_split.specs.Lanes.{counted, counts_after, id_lane, item_lane}
+use Rattle.resh_feed.specs.Lanes.{counted, counts_after, id_lane, item_lane}
 use Rattle.resh_split.specs.Parts.{part_of, parts_of, pieces_from, pieces_of, put_all, put_in}
 
 -- one more of a list of values by number is another

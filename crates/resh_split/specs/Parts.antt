@@ -7,7 +7,7 @@ use Rattle.resh_oplog.specs.Logs.{id_written}
 use Rattle.resh_oplog.specs.declared.entry.What.{What}
 use Rattle.resh_oplog.specs.declared.piece.Piece.{Piece}
 use Rattle.resh_fetcher.specs.declared.batch.Batch.{Batch}
-use Rattle.resh_split.specs.Lanes.{counted, id_lane, item_lane}
+use Rattle.resh_feed.specs.Lanes.{counted, id_lane, item_lane}
 
 -- the piece of an item that writes an `_id`, where it has a place and the lanes have positions; a final entry has none
 abbrev pub pieces_of : ℕ → ShardId → ℕ → ℕ → List ℕ → What → Option Value → List Piece

@@ -1,7 +1,7 @@
 //! The positions of the lanes behind items.
 
 ghost use Rattle.std.specs.Prelude.{◌≡◌, ◌+◌, ◌<◌, map, take, length, Some, IfOk};
-ghost use Rattle.resh_split.specs.Lanes.{counted, counts_after, item_lane};
+ghost use Rattle.resh_feed.specs.Lanes.{counted, counts_after, item_lane};
 
 use crate::lane::item_lane;
 use resh_fetcher::Link;

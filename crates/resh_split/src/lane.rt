@@ -1,7 +1,7 @@
 //! The lane of an `_id`.
 
 ghost use Rattle.std.specs.Prelude.{◌≡◌, ◌<◌, IfOk, IfSome};
-ghost use Rattle.resh_split.specs.Lanes.{id_lane, item_lane, lane_of};
+ghost use Rattle.resh_feed.specs.Lanes.{id_lane, item_lane, lane_of};
 
 use resh_oplog::What;
 use resh_value::{NoMemory, Value, Words};

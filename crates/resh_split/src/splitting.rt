@@ -2,7 +2,7 @@
 
 ghost use Rattle.std.specs.Prelude.{◌≡◌, ◌<◌, [], Some, length, replicate, IfOk};
 ghost use Rattle.resh_oplog.specs.Logs.{id_written};
-ghost use Rattle.resh_split.specs.Lanes.{counted, id_lane, item_lane};
+ghost use Rattle.resh_feed.specs.Lanes.{counted, id_lane, item_lane};
 ghost use Rattle.resh_split.specs.Parts.{parts_of, pieces, pieces_of, put_all, put_in};
 
 use crate::counts::{count_on, next};

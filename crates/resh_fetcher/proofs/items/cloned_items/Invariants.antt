@@ -1,5 +1,5 @@
 use Rattle.std.proofs.Common.{◌≡◌, map}
-use Rattle.resh_fetcher.specs.Items.{cloned_item}
+use Rattle.resh_feed.specs.Items.{cloned_item}
 use Rattle.resh_fetcher.proofs.items.cloned_items.Given as goal
 
 abbrev pub invariant-loop-document : goal.invariant-loop-document

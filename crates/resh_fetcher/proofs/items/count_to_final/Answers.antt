@@ -2,7 +2,7 @@ use Rattle.std.proofs.Common.{rules, tests, ◌≡◌, take, sym, subst, ◌∙�
 use Rattle.std.proofs.lemmas.Iterator.{YieldsList-from_slice}
 use Rattle.std.proofs.lemmas.Iterator.Search.{position_from_yields_List}
 use Rattle.resh_oplog.specs.declared.entry.Entry.{Entry}
-use Rattle.resh_fetcher.specs.Items.{is_final, up_to_final}
+use Rattle.resh_feed.specs.Items.{is_final, up_to_final}
 use Rattle.resh_fetcher.proofs.Cutting.{cutoff, cut_at}
 use Rattle.resh_fetcher.proofs.items.count_to_final.Goals as goal
 

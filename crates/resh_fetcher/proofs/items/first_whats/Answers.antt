@@ -1,7 +1,7 @@
 use Rattle.std.proofs.Common.{map, ap, ◌∙◌}
 use Rattle.std.proofs.lemmas.Iterator.{YieldsList-from_slice, YieldsList-from_take}
 use Rattle.std.proofs.lemmas.Iterator.Consumers.{YieldsList-at, YieldsList-end}
-use Rattle.resh_fetcher.specs.declared.item.Item.{Item}
+use Rattle.resh_feed.specs.declared.item.Item.{Item}
 use Rattle.resh_fetcher.proofs.items.first_whats.Goals as goal
 
 pub returns : goal.returns

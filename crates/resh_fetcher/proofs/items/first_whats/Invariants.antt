@@ -1,5 +1,5 @@
 use Rattle.std.proofs.Common.{◌≡◌, map}
-use Rattle.resh_fetcher.specs.declared.item.Item.{Item}
+use Rattle.resh_feed.specs.declared.item.Item.{Item}
 use Rattle.resh_fetcher.proofs.items.first_whats.Given as goal
 
 abbrev pub invariant-loop-item : goal.invariant-loop-item

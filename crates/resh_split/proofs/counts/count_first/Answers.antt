@@ -1,6 +1,6 @@
 use Rattle.std.proofs.Common.{ap, sym, ◌∙◌, arith}
 use Rattle.std.specs.Option.{option_copied}
-use Rattle.resh_split.specs.Lanes.{counted, item_lane}
+use Rattle.resh_feed.specs.Lanes.{counted, item_lane}
 use Rattle.resh_split.proofs.Counting.{counts_more, counts_all}
 use Rattle.resh_split.proofs.counts.count_first.Goals as goal
 

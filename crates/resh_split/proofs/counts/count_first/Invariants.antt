@@ -1,6 +1,6 @@
 use Rattle.std.proofs.Common.{◌≡◌, map, take, length}
-use Rattle.resh_fetcher.specs.declared.item.Item.{Item}
-use Rattle.resh_split.specs.Lanes.{counts_after}
+use Rattle.resh_feed.specs.declared.item.Item.{Item}
+use Rattle.resh_feed.specs.Lanes.{counts_after}
 use Rattle.resh_split.proofs.counts.count_first.Given as goal
 
 abbrev pub invariant-loop-n : goal.invariant-loop-n

@@ -1,5 +1,5 @@
 use Rattle.std.proofs.Common.{◌≡◌, ◌<◌, take}
-use Rattle.resh_split.specs.Lanes.{lane_of}
+use Rattle.resh_feed.specs.Lanes.{lane_of}
 use Rattle.resh_split.proofs.lane.remainder.Given as goal
 
 abbrev pub invariant-loop-byte : goal.invariant-loop-byte

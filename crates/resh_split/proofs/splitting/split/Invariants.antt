@@ -1,5 +1,5 @@
 use Rattle.std.proofs.Common.{◌≡◌, ◌+◌, length}
-use Rattle.resh_split.specs.Lanes.{counts_after}
+use Rattle.resh_feed.specs.Lanes.{counts_after}
 use Rattle.resh_split.specs.Parts.{parts_of, pieces_from}
 use Rattle.resh_split.proofs.splitting.split.Given as goal
 

@@ -3,8 +3,8 @@ use Rattle.std.proofs.lemmas.List.Elements.{All-map, All-take}
 use Rattle.std.specs.List.{All}
 use Rattle.resh_oplog.specs.Logs.{is_whole}
 use Rattle.resh_oplog.specs.declared.entry.What.{What}
-use Rattle.resh_fetcher.specs.Items.{AreWhole}
-use Rattle.resh_fetcher.specs.declared.item.Item.{Item}
+use Rattle.resh_feed.specs.Items.{AreWhole}
+use Rattle.resh_feed.specs.declared.item.Item.{Item}
 use Rattle.resh_fetcher.proofs.link.Link.batch_of.Goals as goal
 
 pub returns-clause-whole : goal.returns-clause-whole

@@ -1,7 +1,7 @@
 use Rattle.std.proofs.Common.{◌≡◌, List, length, min, ap, sym, ◌∙◌, arith}
 use Rattle.std.proofs.lemmas.List.{length-take}
 use Rattle.resh_oplog.specs.declared.entry.Entry.{Entry}
-use Rattle.resh_fetcher.specs.Items.{up_to_final}
+use Rattle.resh_feed.specs.Items.{up_to_final}
 use Rattle.resh_fetcher.specs.Links.{LinkOf}
 use Rattle.resh_fetcher.proofs.Cutting.{cut_again, cut_fewer}
 use Rattle.resh_fetcher.proofs.link.Link.fetch.Goals as goal

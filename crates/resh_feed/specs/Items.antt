@@ -8,10 +8,10 @@ use Rattle.resh_oplog.specs.Logs.{is_whole, mark_of}
 use Rattle.resh_oplog.specs.declared.entry.Entry.{Entry}
 use Rattle.resh_oplog.specs.declared.entry.What.{What}
 use Rattle.resh_oplog.specs.declared.entry.What.TheVariants.{Insert, Update, Delete, Final}
-use Rattle.resh_fetcher.specs.declared.item.After.{After}
-use Rattle.resh_fetcher.specs.declared.item.After.TheVariants.{ById, ByMark}
-use Rattle.resh_fetcher.specs.declared.item.Item.{Item}
-use Rattle.resh_fetcher.specs.declared.item.Reading.{Reading}
+use Rattle.resh_feed.specs.declared.item.After.{After}
+use Rattle.resh_feed.specs.declared.item.After.TheVariants.{ById, ByMark}
+use Rattle.resh_feed.specs.declared.item.Item.{Item}
+use Rattle.resh_feed.specs.declared.item.Reading.{Reading}
 
 abbrev pub Document : Type 0
 Document = List (List ℕ × Value)
@@ -44,7 +44,11 @@ mark_after before (ByMark mark) = Some mark
 
 -- how far the feed is read with one more item
 abbrev pub past : Reading → Item → Reading
-past reading item = record { last_id = id_after reading.last_id item.after; mark = mark_after reading.mark item.after; finished = is_final item.what }
+past reading item = record {
+  last_id = id_after reading.last_id item.after;
+  mark = mark_after reading.mark item.after;
+  finished = is_final item.what;
+}
 
 -- how far the feed is read with more items
 abbrev pub past_all : Reading → List Item → Reading
