@@ -1,48 +1,24 @@
 -- What a map of chains files under each `_id`, and what it files after a write.
-use Rattle.std.proofs.Common.{◌≡◌, ◌≢◌, Bool, true, false, ◌&&◌, cond, T, List, [], ◌∷◌, ◌++◌, Option, Some, None, Bor, unwrap_or, IfSome, IsSome, refl, sym, ap, ◌∙◌, subst, Less}
+use Rattle.std.proofs.Common.{◌≡◌, ◌≢◌, ℕ, Bool, true, false, cond, [], ◌∷◌, ◌++◌, Option, Some, None, Bor, unwrap_or, IfSome, IsSome, refl, sym, ap, ◌∙◌, subst}
 use Rattle.std.proofs.lemmas.Map.Views.{tells_apart}
 use Rattle.std.specs.BTreeMap as tree
 use Rattle.std.specs.BTreeMap.{BTreeMap, IsOrdered, Updates, WritesThrough, is_at}
 use Rattle.std.specs.Cmp.{eq_by_cmp_equiv}
-use Rattle.std.specs.FinMap.{empty, get, get-empty, find, insert, remove, from_sorted, is_sorted, get-from_sorted, get-insert, get-remove, same_map}
-use Rattle.std.specs.FinMap.Entries.{below_all}
+use Rattle.std.specs.FinMap.{empty, entries, entries-from_sorted, get, get-empty, insert, remove, from_sorted, get-from_sorted, get-insert, get-remove, same_map}
 use Rattle.std.specs.List.{AllByRecursion}
 use Rattle.std.specs.List.Sorted.{IsStrictlySortedBy}
 use Rattle.std.specs.Map.{lookup, keys_of}
 use Rattle.std.specs.Option.{option_copied}
-use Rattle.std.specs.Ordering.{eq_by_cmp, is_lt}
-use Rattle.std.specs.declared.cmp.Ordering.{Ordering}
+use Rattle.std.specs.Ordering.{eq_by_cmp}
 use Rattle.resh_value.specs.Lookup.{id_of}
 use Rattle.resh_value.specs.Order.{compare_of}
 use Rattle.resh_value.specs.OrderLaws.{compare_total, compare_same}
+use Rattle.resh_value.proofs.MapEntries.{find_lookup, in_order}
 use Rattle.resh_value.specs.declared.value.Value.{Value}
-use Rattle.resh_versions.specs.Chains.{Chain, has_versions, without_newest}
+use Rattle.resh_versions.specs.Chains.{Chain, Document, IsStored, has_versions, version, without_newest}
 use Rattle.resh_versions.proofs.ChainLaws.{pushed_has, taken_has}
-use Rattle.resh_versions.specs.Standing.{Chains, IsChainOf, IsFiled, IsKept, chain_in, filed, pushed, popped, with_chain}
+use Rattle.resh_versions.specs.Standing.{Chains, IsChainOf, IsFiled, IsKept, StandsUnder, chain_in, filed, pushed, popped, with_chain, with_first}
 use Rattle.resh_versions.specs.declared.version.Version.{Version}
-
-pub join : (a b : Bool) → T a → T b → T (a && b)
-join true b p q = q
-join false b p q = absurd p
-
-pub split : (a b : Bool) → T (a && b) → T a × T b
-split true b t = (tt, t)
-split false b t = absurd t
-
-module _ {K X : Type 0} (R : K → K → Ordering) where
-  all_below : (k : K) (es : List (K × X)) → AllByRecursion (λ y. R k y ≡ Less) (keys_of es) → T (below_all R k es)
-  all_below k [] a = tt
-  all_below k (e ∷ es) a = join _ _ (subst (λ r. T (is_lt r)) (sym a.0) tt) (all_below k es a.1)
-
-  -- entries whose keys rise are in order
-  pub in_order : (es : List (K × X)) → IsStrictlySortedBy R (keys_of es) → T (is_sorted R es)
-  unfolding IsStrictlySortedBy
-  in_order [] s = tt
-  in_order (e ∷ es) s = join _ _ (all_below e.0 es s.0) (in_order es s.1)
-
-  pub find_lookup : (q : K) (es : List (K × X)) → find R q es ≡ lookup (eq_by_cmp R q) es
-  find_lookup q [] = refl
-  find_lookup q (e ∷ es) = ap (cond (eq_by_cmp R q e.0) (Some e.1)) (find_lookup q es)
 
 abbrev pub Tree : Type 0
 Tree = BTreeMap Value Chain
@@ -99,23 +75,27 @@ taken m n id k s sets = (
   kept_by n s (are_after id None (found m) (found n) sets (found_are m k) (λ c e. cc)),
 )
 
+-- the entries of the map are those of what it files
+pub kept_entries : (m : Tree) (chains : Chains) → IsKept m → filed m ≡ chains → m.entries ≡ entries chains
+kept_entries m chains k is = sym (entries-from_sorted compare_of m.entries (in_order compare_of m.entries k.ordered)) ∙ ap entries is
+
 -- the map with the same entries
 pub same_entries : (m n : Tree) → IsKept m → n.entries ≡ m.entries → (filed n ≡ filed m) × IsKept n
 same_entries m n k is = (ap from_sorted is, kept_by n (subst (λ es. IsStrictlySortedBy compare_of (keys_of es)) (sym is) k.ordered) (λ id chain e. found_are m k id chain (sym (ap (lookup (is_at (compare_of id))) is) ∙ e)))
 
 -- what a chain with one more version has
-pub longer : (id : Value) (chain : Chain) (v : Version) → AllByRecursion (λ w. IfSome w.document (λ d. id_of d ≡ id)) chain → IfSome v.document (λ d. id_of d ≡ id) → IsChainOf id (chain ++ v ∷ [])
-longer id chain v named new = record { filled = never chain; named = pushed_has (λ d. id_of d ≡ id) chain v named new }
+pub longer : (id : Value) (chain : Chain) (v : Version) → AllByRecursion (λ w. IfSome w.document (StandsUnder id)) chain → IfSome v.document (StandsUnder id) → IsChainOf id (chain ++ v ∷ [])
+longer id chain v named new = record { filled = never chain; stand = pushed_has (StandsUnder id) chain v named new }
   where
     never : (c : Chain) → c ++ v ∷ [] ≢ []
     never [] e = cc
     never (w ∷ ws) e = cc
 
 -- the map after a version was put behind those of an `_id`, or was its first
-module _ (m n : Tree) (id : Value) (v : Version) (k : IsKept m) (named : IfSome v.document (λ d. id_of d ≡ id)) where
+module _ (m n : Tree) (id : Value) (v : Version) (k : IsKept m) (named : IfSome v.document (StandsUnder id)) where
   pub pushed_found : (chain left : Chain) → Some chain ≡ found m id → left ≡ chain ++ v ∷ [] → WritesThrough compare_of (compare_of id) m left n → (filed n ≡ pushed (filed m) id v) × IsKept n
   pushed_found chain left is e w =
-      let r = written m n id left k w.4 (w.3 (some chain (sym is))).0 (subst (IsChainOf id) (sym e) (longer id chain v (found_are m k id chain (sym is)).named named)) in
+      let r = written m n id left k w.4 (w.3 (some chain (sym is))).0 (subst (IsChainOf id) (sym e) (longer id chain v (found_are m k id chain (sym is)).stand named)) in
       (r.0 ∙ ap (insert (filed m) id) (e ∙ ap (λ c. c ++ v ∷ []) (sym (chain_in_filed m id (Some chain) k.ordered (sym is)))), r.1)
     where
       some : (c : Chain) → found m id ≡ Some c → IsSome (found m id)
@@ -134,12 +114,12 @@ module _ (m n : Tree) (id : Value) (chain left : Chain) (k : IsKept m) (is : Som
   with_left : popped (filed m) id ≡ with_chain (filed m) id left
   with_left = ap (λ c. with_chain (filed m) id (without_newest c)) (chain_in_filed m id (Some chain) k.ordered (sym is)) ∙ ap (with_chain (filed m) id) (sym shorter)
 
-  left_named : AllByRecursion (λ v. IfSome v.document (λ d. id_of d ≡ id)) left
-  left_named = subst (AllByRecursion (λ (v : Version). IfSome v.document (λ d. id_of d ≡ id))) (sym shorter) (taken_has (λ d. id_of d ≡ id) _ chain (found_are m k id chain (sym is)).named)
+  left_named : AllByRecursion (λ v. IfSome v.document (StandsUnder id)) left
+  left_named = subst (AllByRecursion (λ (v : Version). IfSome v.document (StandsUnder id))) (sym shorter) (taken_has (StandsUnder id) _ chain (found_are m k id chain (sym is)).stand)
 
   pub popped_shorter : has_versions left ≡ true → (filed n ≡ popped (filed m) id) × IsKept n
   popped_shorter filled =
-      let r = written m n id left k w.4 (w.3 some).0 (record { filled = never left filled; named = left_named }) in
+      let r = written m n id left k w.4 (w.3 some).0 (record { filled = never left filled; stand = left_named }) in
       (r.0 ∙ sym (with_left ∙ by left filled), r.1)
     where
       never : (c : Chain) → has_versions c ≡ true → c ≢ []
@@ -184,14 +164,34 @@ kept_none m s none = (
     not_some : (chain : Chain) → None ≡ Some chain → ⊥
     not_some chain e = cc
 
--- the documents of a chain of an `_id` have it
-pub chain_named : (chains : Chains) (id : Value) → IsFiled chains → AllByRecursion (λ v. IfSome v.document (λ d. id_of d ≡ id)) (chain_in chains id)
-chain_named chains id are = by (get chains id) refl
+-- the documents of a chain of an `_id` may stand under it
+pub chain_stands : (chains : Chains) (id : Value) → IsFiled chains → AllByRecursion (λ v. IfSome v.document (StandsUnder id)) (chain_in chains id)
+chain_stands chains id are = by (get chains id) refl
   where
-    by : (r : Option Chain) → get chains id ≡ r → AllByRecursion (λ v. IfSome v.document (λ d. id_of d ≡ id)) (unwrap_or r [])
+    by : (r : Option Chain) → get chains id ≡ r → AllByRecursion (λ v. IfSome v.document (StandsUnder id)) (unwrap_or r [])
     by None e = tt
-    by (Some chain) e = (are id chain e).named
+    by (Some chain) e = (are id chain e).stand
 
 pub found_chain : (m : Tree) (id : Value) → IsKept m → (r : Option (Bor Chain)) → option_copied r ≡ found m id → IfSome r (λ chain. IsChainOf id chain.now)
 found_chain m id k None is = tt
 found_chain m id k (Some chain) is = found_are m k id chain.now (sym is)
+
+-- the documents of a chain of an `_id` have it
+pub chain_named : (chains : Chains) (id : Value) → IsFiled chains → AllByRecursion (λ v. IfSome v.document (λ d. id_of d ≡ id)) (chain_in chains id)
+chain_named chains id are = all_named (chain_in chains id) (chain_stands chains id are)
+  where
+    one : (d : Option Document) → IfSome d (StandsUnder id) → IfSome d (λ x. id_of x ≡ id)
+    one None h = tt
+    one (Some d) h = h.named
+
+    all_named : (c : Chain) → AllByRecursion (λ v. IfSome v.document (StandsUnder id)) c → AllByRecursion (λ v. IfSome v.document (λ d. id_of d ≡ id)) c
+    all_named [] all = tt
+    all_named (v ∷ vs) all = (one v.document all.0, all_named vs all.1)
+
+-- a document from a time on, in the place of what an `_id` had
+pub stored_first : (m n : Tree) (time : ℕ) (id : Value) (d : Document) (chain : Chain) → IsKept m → IsOrdered compare_of n → SetsAt id (Some chain) (found m) (found n) → chain ≡ version time (Some d) ∷ [] → id ≡ id_of d → IsStored d
+    → (filed n ≡ with_first time (filed m) d) × IsKept n
+stored_first m n time id d chain k s sets is named whole =
+    let alone : IsChainOf id chain = subst (IsChainOf id) (sym is) (longer id [] (version time (Some d)) tt (record { whole = whole; named = sym named })) in
+    let r = written m n id chain k s sets alone in
+    (r.0 ∙ (λ i. insert (filed m) (named i) (is i)), r.1)

@@ -1,6 +1,8 @@
 pub mod ChainLaws
-mod Filing
-mod Listing
-mod Pruning
-mod Scanning
-mod WriteLaws
+pub mod Filing
+pub mod GoingOn
+pub mod KeptLists
+pub mod Listing
+pub mod Pruning
+pub mod Storing
+pub mod WriteLaws

@@ -9,15 +9,15 @@ use Rattle.std.specs.List.{AllByRecursion, fold, list_any}
 use Rattle.std.specs.Map.Calls.{RetainsPairs}
 use Rattle.std.specs.Ordering.{eq_by_cmp, is_lt}
 use Rattle.std.specs.declared.cmp.Ordering.{Ordering}
-use Rattle.resh_value.specs.Lookup.{id_of}
 use Rattle.resh_value.specs.Order.{compare_of}
 use Rattle.resh_value.specs.OrderLaws.{compare_same}
 use Rattle.resh_value.specs.declared.value.Value.{Value}
+use Rattle.resh_value.proofs.MapEntries.{both_hold, hold_both, in_order}
 use Rattle.resh_versions.specs.Chains.{Document, Chain, has_versions, newest, is_by, chain_at, pruned_chain}
 use Rattle.resh_versions.specs.Laws.{PrunesUnseen}
-use Rattle.resh_versions.specs.Standing.{Chains, IsChainOf, IsFiled, IsKept, chain_in, filed, pruned_chains, pruned_entries}
+use Rattle.resh_versions.specs.Standing.{Chains, IsChainOf, IsFiled, IsKept, StandsUnder, chain_in, filed, pruned_chains, pruned_entries}
 use Rattle.resh_versions.specs.declared.version.Version.{Version}
-use Rattle.resh_versions.proofs.Filing.{Tree, join, split, found, in_order}
+use Rattle.resh_versions.proofs.Filing.{Tree, found}
 
 -- a test that passes every version that isn't later than a time reads the same of the pruned chain
 module _ (time : ℕ) (p : Version → Bool) (passes : (v : Version) → is_by time v ≡ true → p v ≡ true) where
@@ -95,26 +95,26 @@ module _ (time : ℕ) where
   below_pruned : (k : Value) (es : List (Value × Chain)) → T (below_all compare_of k es) → T (below_all compare_of k (pruned_entries time es))
   below_pruned k [] t = tt
   below_pruned k (e ∷ es) t =
-      let parts = split _ _ t in
+      let parts = both_hold _ _ t in
       by (has_versions (pruned_chain time e.1)) parts.0 (below_pruned k es parts.1)
     where
       by : (b : Bool) → T (is_lt (compare_of k e.0)) → T (below_all compare_of k (pruned_entries time es)) → T (below_all compare_of k (cond b ((e.0, pruned_chain time e.1) ∷ pruned_entries time es) (pruned_entries time es)))
-      by true here rest = join _ _ here rest
+      by true here rest = hold_both _ _ here rest
       by false here rest = rest
 
   pub pruned_in_order : (es : List (Value × Chain)) → T (is_sorted compare_of es) → T (is_sorted compare_of (pruned_entries time es))
   pruned_in_order [] t = tt
   pruned_in_order (e ∷ es) t =
-      let parts = split _ _ t in
+      let parts = both_hold _ _ t in
       by (has_versions (pruned_chain time e.1)) (below_pruned e.0 es parts.0) (pruned_in_order es parts.1)
     where
       by : (b : Bool) → T (below_all compare_of e.0 (pruned_entries time es)) → T (is_sorted compare_of (pruned_entries time es)) → T (is_sorted compare_of (cond b ((e.0, pruned_chain time e.1) ∷ pruned_entries time es) (pruned_entries time es)))
-      by true here rest = join _ _ here rest
+      by true here rest = hold_both _ _ here rest
       by false here rest = rest
 
   not_above : (k : Value) (es : List (Value × Chain)) → T (below_all compare_of k es) → find compare_of k es ≡ None
   not_above k [] t = refl
-  not_above k (e ∷ es) t = let parts = split _ _ t in by (compare_of k e.0) parts.0 (not_above k es parts.1)
+  not_above k (e ∷ es) t = let parts = both_hold _ _ t in by (compare_of k e.0) parts.0 (not_above k es parts.1)
     where
       by : (r : Ordering) → T (is_lt r) → find compare_of k es ≡ None → cond (is_eq r) (Some e.1) (find compare_of k es) ≡ None
       by Less t rest = rest
@@ -124,7 +124,7 @@ module _ (time : ℕ) where
   pub find_pruned : (q : Value) (es : List (Value × Chain)) → T (is_sorted compare_of es) → find compare_of q (pruned_entries time es) ≡ shown time (find compare_of q es)
   find_pruned q [] t = refl
   find_pruned q (e ∷ es) t =
-      let parts = split _ _ t in
+      let parts = both_hold _ _ t in
       by (has_versions (pruned_chain time e.1)) (eq_by_cmp compare_of q e.0) refl refl (find_pruned q es parts.1) (λ same. subst (λ k. find compare_of k es ≡ None) (sym (tells_apart compare_same q e.0 same)) (not_above e.0 es parts.0))
     where
       by : (b s : Bool) → has_versions (pruned_chain time e.1) ≡ b → eq_by_cmp compare_of q e.0 ≡ s → find compare_of q (pruned_entries time es) ≡ shown time (find compare_of q es)
@@ -152,9 +152,9 @@ module _ (time : ℕ) where
       by None = refl
       by (Some c) = whole (pruned_chain time c)
 
-  has_chain : (c : Chain) (id : Value) (chain : Chain) (b : Bool) → has_versions c ≡ b → AllByRecursion (λ v. IfSome v.document (λ d. id_of d ≡ id)) c → cond b (Some c) None ≡ Some chain → IsChainOf id chain
+  has_chain : (c : Chain) (id : Value) (chain : Chain) (b : Bool) → has_versions c ≡ b → AllByRecursion (λ v. IfSome v.document (StandsUnder id)) c → cond b (Some c) None ≡ Some chain → IsChainOf id chain
   has_chain [] id chain true h named e = cc
-  has_chain (v ∷ vs) id chain true h named e = subst (IsChainOf id) (ap (λ r. unwrap_or r chain) e) (record { filled = λ none. cc; named = named })
+  has_chain (v ∷ vs) id chain true h named e = subst (IsChainOf id) (ap (λ r. unwrap_or r chain) e) (record { filled = λ none. cc; stand = named })
   has_chain c id chain false h named e = absurd (apart e)
     where
       apart : None ≡ Some chain → ⊥
@@ -169,7 +169,7 @@ module _ (time : ℕ) where
 
       by : (r : Option Chain) → get chains id ≡ r → shown time (get chains id) ≡ Some chain → IsChainOf id chain
       by None none s = absurd (apart (sym (ap (shown time) none) ∙ s))
-      by (Some c) found s = has_chain (pruned_chain time c) id chain _ refl (pruned_has _ time c (are id c found).named) (sym (ap (shown time) found) ∙ s)
+      by (Some c) found s = has_chain (pruned_chain time c) id chain _ refl (pruned_has _ time c (are id c found).stand) (sym (ap (shown time) found) ∙ s)
 
   -- the map after its chains were pruned
   pub pruned_kept : (m n : Tree) → IsKept m → IsOrdered compare_of n → n.entries ≡ pruned_entries time m.entries → (filed n ≡ pruned_chains time (filed m)) × IsKept n

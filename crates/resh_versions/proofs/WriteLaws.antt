@@ -14,7 +14,7 @@ use Rattle.resh_versions.specs.Laws.{AddsVersion, TakesBack, ReadsNow, StartsEmp
 use Rattle.resh_versions.specs.Standing.{Chains, IsChainOf, IsFiled, chain_in, chain_of, pushed, popped, with_chain}
 use Rattle.resh_versions.specs.declared.version.Version.{Version}
 use Rattle.resh_versions.proofs.ChainLaws.{newest_pushed, chain_at_pushed, without_newest_pushed, is_later}
-use Rattle.resh_versions.proofs.Filing.{same_chains, are_after, turned, longer, chain_named}
+use Rattle.resh_versions.proofs.Filing.{same_chains, are_after, turned, longer, chain_stands}
 use Rattle.resh_versions.proofs.Pruning.{pruned_filed}
 
 itself : (id : Value) → eq_by_cmp compare_of id id ≡ true
@@ -114,7 +114,7 @@ keeps_filed = record {
   empty = λ id chain is. absurd (not_some chain (sym (get-empty compare_of id) ∙ is));
   added = λ s id v are named. are_after id (Some (more s.chains id v)) (get s.chains) (get (pushed s.chains id v))
       (λ q. get_pushed s.chains id v q ∙ ap (λ b. cond b (Some (more s.chains id v)) (get s.chains q)) (sym (turned id q))) are
-      (λ chain e. subst (IsChainOf id) (ap (λ r. unwrap_or r chain) e) (longer id (chain_in s.chains id) v (chain_named s.chains id are) named));
+      (λ chain e. subst (IsChainOf id) (ap (λ r. unwrap_or r chain) e) (longer id (chain_in s.chains id) v (chain_stands s.chains id are) named));
   pruned = λ s time are. pruned_filed (max s.floor time) s.chains are;
 }
   where

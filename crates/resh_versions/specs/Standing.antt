@@ -1,17 +1,17 @@
 -- What stood at a time: each `_id` has its versions.
-use Rattle.std.specs.Prelude.{◌≡◌, ◌≢◌, ◌≤◌, ℕ, max, Bool, true, cond, List, [], ◌∷◌, ◌++◌, map, filter, Option, Some, None, unwrap_or, is_some, IfSome, refl}
+use Rattle.std.specs.Prelude.{◌≡◌, ◌≢◌, ◌≤◌, ℕ, max, Bool, true, cond, not, List, [], ◌∷◌, ◌++◌, map, filter, Option, Some, None, unwrap_or, is_some, IfSome, refl}
 use Rattle.std.specs.BTreeMap.{BTreeMap, IsOrdered}
 use Rattle.std.specs.Coded.{Coded, code_by, coded×, coded_list, coded_ℕ}
-use Rattle.std.specs.FinMap.{FinMap, code, entries, from_sorted, get, insert, remove}
-use Rattle.std.specs.List.{AllByRecursion, filter_map}
+use Rattle.std.specs.FinMap.{FinMap, code, empty, entries, from_sorted, get, insert, remove}
+use Rattle.std.specs.List.{AllByRecursion, filter_map, fold}
 use Rattle.std.specs.Ordering.{is_lt}
 use Rattle.resh_value.specs.Lookup.{id_of}
-use Rattle.resh_value.specs.Order.{compare_of}
+use Rattle.resh_value.specs.Order.{compare_of, is_same}
 use Rattle.resh_value.specs.contracts.value.Value as value
 use Rattle.resh_value.specs.declared.value.Value.{Value}
 use Rattle.resh_versions.specs.contracts.version.Version as one_version
 use Rattle.resh_versions.specs.declared.version.Version.{Version}
-use Rattle.resh_versions.specs.Chains.{Document, Chain, version, newest, chain_at, without_newest, has_versions, pruned_chain}
+use Rattle.resh_versions.specs.Chains.{Chain, Document, IsStored, chain_at, chain_read, has_versions, newest, pruned_chain, version, without_newest}
 
 abbrev pub Chains : Type 0
 Chains = FinMap compare_of Chain
@@ -43,9 +43,34 @@ abbrev pub is_above : Option Value → Value → Bool
 is_above None id = true
 is_above (Some after) id = is_lt (compare_of after id)
 
--- the documents at a time whose `_id`s are above one, if one is given, by `_id`
+-- the chains whose `_id`s are above one, if one is given, by `_id`
+abbrev pub chains_above : Option Value → List (Value × Chain) → List (Value × Chain)
+chains_above after es = filter (λ e. is_above after e.0) es
+
+-- the documents that chains have at a time, or now
+abbrev pub documents_of : Option ℕ → List (Value × Chain) → List Document
+documents_of time es = filter_map (λ e. chain_read time e.1) es
+
+-- what an `_id` has at a time, or now where none is given
+abbrev pub read : VersionsOf → Option ℕ → Value → Option Document
+read versions time id = chain_read time (chain_of versions id)
+
+-- the documents at a time, or now, whose `_id`s are above one, if one is given, by `_id`
+abbrev pub read_after : VersionsOf → Option ℕ → Option Value → List Document
+read_after versions time after = documents_of time (chains_above after (entries versions.chains))
+
+-- the documents at a time above an `_id`
 abbrev pub standing_after : VersionsOf → ℕ → Option Value → List Document
-standing_after versions time after = filter_map (λ e. chain_at time e.1) (filter (λ e. is_above after e.0) (entries versions.chains))
+standing_after versions time after = read_after versions (Some time) after
+
+-- the documents now above an `_id`
+abbrev pub standing_now : VersionsOf → Option Value → List Document
+standing_now versions after = read_after versions None after
+
+-- the documents at a time up to an `_id`, by `_id`
+abbrev pub standing_up_to : VersionsOf → ℕ → Value → List Document
+standing_up_to versions time last =
+    documents_of (Some time) (filter (λ e. not (is_above (Some last) e.0)) (entries versions.chains))
 
 -- the documents at a time by `_id`
 abbrev pub standing : VersionsOf → ℕ → List Document
@@ -60,7 +85,9 @@ with_version versions id v = record { chains = pushed versions.chains id v; floo
 
 -- where a document stands under an `_id`, nothing does from a time on
 abbrev pub with_removal : VersionsOf → ℕ → Value → VersionsOf
-with_removal versions time id = record { chains = cond (is_some (now versions id)) (pushed versions.chains id (version time None)) versions.chains; floor = versions.floor }
+with_removal versions time id =
+    let removed = pushed versions.chains id (version time None) in
+    record versions { chains = cond (is_some (now versions id)) removed versions.chains }
 
 -- a chain in the place of the one of an `_id`; no `_id` has a chain without versions
 abbrev pub with_chain : Chains → Value → Chain → Chains
@@ -83,16 +110,35 @@ pruned_chains time chains = from_sorted (pruned_entries time (entries chains))
 
 -- readings are answered from a time on, or as before where that is later, and what none of them can give is gone
 abbrev pub pruned : ℕ → VersionsOf → VersionsOf
-pruned time versions = let floor = max versions.floor time in record { chains = pruned_chains floor versions.chains; floor = floor }
+pruned time versions =
+    let floor = max versions.floor time in record { chains = pruned_chains floor versions.chains; floor = floor }
+
+-- a document alone under its `_id`, from a time on
+abbrev pub with_first : ℕ → Chains → Document → Chains
+with_first time chains document = insert chains (id_of document) (version time (Some document) ∷ [])
+
+-- documents alone, each under its `_id` from a time on, of several of one `_id` the last one; no earlier time is read
+abbrev pub stored_from : ℕ → List Document → VersionsOf
+stored_from time documents = record { chains = fold (with_first time) empty documents; floor = time }
+
+-- the last one of an `_id` among documents
+abbrev pub last_of : List Document → Value → Option Document
+last_of documents id =
+    fold (λ before document. cond (is_same id (id_of document)) (Some document) before) None documents
 
 -- no version is later
 abbrev pub IsUpTo : ℕ → VersionsOf → Type 0
 IsUpTo time versions = (id : Value) → AllByRecursion (λ v. v.time ≤ time) (chain_of versions id)
 
--- a chain of an `_id` has versions, and its documents have that `_id`
+-- a document that may stand under an `_id`: it can be stored, and has that `_id`
+pub record StandsUnder (id : Value) (document : Document) : Type 0 where
+  pub whole : IsStored document
+  pub named : id_of document ≡ id
+
+-- a chain of an `_id` has versions, and its documents may stand there
 pub record IsChainOf (id : Value) (chain : Chain) : Type 0 where
   pub filled : chain ≢ []
-  pub named : AllByRecursion (λ v. IfSome v.document (λ document. id_of document ≡ id)) chain
+  pub stand : AllByRecursion (λ v. IfSome v.document (StandsUnder id)) chain
 
 -- each chain is one of its `_id`
 abbrev pub IsFiled : Chains → Type 0

@@ -2,7 +2,7 @@
 
 ghost use Rattle.std.specs.Prelude.{◌≡◌, ◌≤◌, [], ◌∷◌, ◌++◌, drop, length, IfOk, OnOk, OnErr};
 ghost use Rattle.std.specs.Option.{option_copied};
-ghost use Rattle.resh_versions.specs.Chains.{chain_at, has_versions, newest, pruned_chain, without_newest};
+ghost use Rattle.resh_versions.specs.Chains.{chain_at, chain_read, has_versions, newest, pruned_chain, without_newest};
 
 use crate::version::Version;
 use resh_value::{Document, NoMemory};
@@ -74,6 +74,16 @@ impl Chain {
         ensures { option_copied result ≡ chain_at time self.now }
     {
         read_at(time, self.versions.as_slice())
+    }
+
+    /// What stood at a time, or stands now where none is given.
+    pub(crate) fn read(&self, time: Option<u64>) -> Option<&Document>
+        ensures { option_copied result ≡ chain_read time self.now }
+    {
+        match time {
+            Some(time) => self.at(time),
+            None => self.newest(),
+        }
     }
 
     /// Drops what no reading from a time on can give.

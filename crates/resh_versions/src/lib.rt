@@ -3,10 +3,10 @@
 
 mod chain;
 mod laws;
-#[cfg(test)]
-mod tests;
 mod version;
 mod versions;
+mod walk;
 
-pub use laws::version_laws;
+pub use laws::{list_laws, version_laws};
 pub use versions::Versions;
+pub use walk::Walk;

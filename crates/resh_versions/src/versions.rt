@@ -1,13 +1,17 @@
-ghost use Rattle.std.specs.Prelude.{◌≡◌, ◌≤◌, ℕ, Some, take, IfOk, IfSome, OnOk, OnErr};
+ghost use Rattle.std.specs.Prelude.{◌≡◌, ◌≤◌, ℕ, None, Some, take, IfOk, IfSome, IsOk, OnOk, OnErr, true};
 ghost use Rattle.std.specs.FinMap.{empty, get};
-ghost use Rattle.std.specs.List.{filter_map};
+ghost use Rattle.std.specs.List.{All};
 ghost use Rattle.std.specs.Option.{is_some, option_copied};
 ghost use Rattle.resh_value.specs.Lookup.{id_of};
-ghost use Rattle.resh_versions.specs.Chains.{chain_at, version};
-ghost use Rattle.resh_versions.specs.Standing.{IsChainOf, IsFiled, IsKept, at, filed, now, popped, pruned, pruned_chains, pushed, standing_after, with_removal, with_version, without_last};
+ghost use Rattle.resh_value.specs.Whole.{is_whole};
+ghost use Rattle.resh_versions.specs.Chains.{IsStored, version};
+ghost use Rattle.resh_versions.specs.Standing.{IsChainOf, IsFiled, IsKept, StandsUnder, at, chains_above, filed, now};
+ghost use Rattle.resh_versions.specs.Standing.{popped, pruned, pruned_chains, pushed, standing_after, standing_now};
+ghost use Rattle.resh_versions.specs.Standing.{stored_from, with_first, with_removal, with_version, without_last};
 
 use crate::chain::Chain;
 use crate::version::Version;
+use crate::walk::Walk;
 use resh_value::{Document, Documents, NoMemory, Sequence, Value};
 use std::alloc::Global;
 use std::collections::BTreeMap;
@@ -48,13 +52,35 @@ impl Versions {
         }
     }
 
+    /// Only these documents stand, each under its `_id` from a time on, of several of one `_id` the last one. Readings
+    /// are answered from that time on.
+    pub fn of_documents(
+        alloc: Global,
+        time: u64,
+        documents: Documents,
+    ) -> Result<Versions, NoMemory>
+        requires { All IsStored documents }
+        ensures { IfOk result (λ versions. versions ≡ stored_from time documents) }
+    {
+        let mut chains = BTreeMap::new(alloc);
+        for document in documents.into_vec() {
+            store(&mut chains, alloc, time, document)?;
+        }
+        Ok(Versions {
+            chains,
+            floor: time,
+            alloc,
+        })
+    }
+
     /// Puts a document under its `_id` from a time on. Want of memory leaves all as it was.
     pub fn put(&mut self, time: u64, document: Document) -> Result<(), NoMemory>
+        requires { is_whole document ≡ true }
         ensures ok { OnOk result (self.new ≡ with_version self.old (id_of document) (version time (Some document))) }
         ensures undone { OnOk result (without_last self.new (id_of document) ≡ self.old) }
         ensures unchanged { OnErr result (self.new ≡ self.old) }
     {
-        let id = copy_of_id(self.alloc, &document)?;
+        let id = document.copy_id(self.alloc)?;
         let version = Version {
             time,
             document: Some(document),
@@ -63,11 +89,12 @@ impl Versions {
         Ok(())
     }
 
-    /// Nothing stands under an `_id` from a time on; false exactly where nothing stood there, and then all is as it was.
-    /// Want of memory leaves all as it was.
+    /// Nothing stands under an `_id` from a time on. False exactly where nothing stood there; then all is as it was,
+    /// and no memory is asked for. Want of memory leaves all as it was.
     pub fn remove(&mut self, time: u64, id: &Value) -> Result<bool, NoMemory>
         ensures stood { IfOk result (λ stood. stood ≡ is_some (now self.old id.now)) }
         ensures ok { OnOk result (self.new ≡ with_removal self.old time id.now) }
+        ensures nothing { now self.old id.now ≡ None → IsOk result }
         ensures unchanged { OnErr result (self.new ≡ self.old) }
     {
         if self.now(id).is_none() {
@@ -91,7 +118,7 @@ impl Versions {
     /// What stands now under an `_id`; `None` exactly where nothing does.
     pub fn now(&self, id: &Value) -> Option<&Document>
         ensures now { option_copied result ≡ now self.now id.now }
-        ensures named { IfSome result (λ document. id_of document.now ≡ id.now) }
+        ensures stands { IfSome result (λ document. StandsUnder id.now document.now) }
     {
         match chain_of(&self.chains, id) {
             Some(chain) => chain.newest(),
@@ -103,11 +130,34 @@ impl Versions {
     pub fn at(&self, time: u64, id: &Value) -> Option<&Document>
         requires { self.now.floor ≤ time }
         ensures at { option_copied result ≡ at self.now time id.now }
-        ensures named { IfSome result (λ document. id_of document.now ≡ id.now) }
+        ensures stands { IfSome result (λ document. StandsUnder id.now document.now) }
     {
         match chain_of(&self.chains, id) {
             Some(chain) => chain.at(time),
             None => None,
+        }
+    }
+
+    /// The documents at a time, by `_id`, above an `_id` where one is given.
+    pub fn walk_at<'a>(&'a self, time: u64, after: Option<&Value>) -> Walk<'a>
+        requires { self.now.floor ≤ time }
+        ensures listed { result ≡ standing_after self.now time (option_copied after.entry) }
+        ensures whole { All IsStored result }
+    {
+        Walk {
+            chains: chains_above(&self.chains, after),
+            time: Some(time),
+        }
+    }
+
+    /// The documents now, by `_id`, above an `_id` where one is given.
+    pub fn walk_now<'a>(&'a self, after: Option<&Value>) -> Walk<'a>
+        ensures listed { result ≡ standing_now self.now (option_copied after.entry) }
+        ensures whole { All IsStored result }
+    {
+        Walk {
+            chains: chains_above(&self.chains, after),
+            time: None,
         }
     }
 
@@ -119,15 +169,14 @@ impl Versions {
         most: u32,
     ) -> Result<Documents, NoMemory>
         requires { self.now.floor ≤ time }
-        ensures { IfOk result (λ ds. ds ≡ take most (standing_after self.now time (option_copied after.entry))) }
+        ensures listed { IfOk result (λ ds. ds ≡ take most (standing_after self.now time (option_copied after.entry))) }
+        ensures whole { IfOk result (λ ds. All IsStored ds) }
     {
-        match after {
-            Some(id) => {
-                let above = self.chains.range((Bound::Excluded(id), Bound::Unbounded));
-                first_standing(self.alloc, above, time, most as usize)
-            }
-            None => first_standing(self.alloc, self.chains.range(..), time, most as usize),
+        let mut documents = Vec::new(self.alloc);
+        for document in self.walk_at(time, after).take(most as usize) {
+            documents.push(document.copy()?)?;
         }
+        Ok(Sequence::from_vec(documents))
     }
 
     /// The time from which on readings are answered. Each chain has versions, and their documents its `_id`.
@@ -150,15 +199,6 @@ impl Versions {
     }
 }
 
-fn copy_of_id(alloc: Global, document: &Document) -> Result<Value, NoMemory>
-    ensures { IfOk result (λ id. id ≡ id_of document.now) }
-{
-    match document.id() {
-        Some(id) => id.copy(alloc),
-        None => Ok(Value::Null),
-    }
-}
-
 /// The versions of an `_id`; `None` exactly where it has none.
 fn chain_of<'a>(chains: &'a BTreeMap<Value, Chain>, id: &Value) -> Option<&'a Chain>
     requires { IsKept chains.now }
@@ -176,7 +216,7 @@ fn push_version(
     version: Version,
 ) -> Result<(), NoMemory>
     requires kept { IsKept chains.old }
-    requires named { IfSome version.document (λ document. id_of document ≡ id) }
+    requires stands { IfSome version.document (StandsUnder id) }
     ensures ok { OnOk result (filed chains.new ≡ pushed (filed chains.old) id version) }
     ensures unchanged { OnErr result (filed chains.new ≡ filed chains.old) }
     ensures kept { IsKept chains.new }
@@ -215,23 +255,36 @@ fn prune_chains(chains: &mut BTreeMap<Value, Chain>, time: u64)
     });
 }
 
-/// Copies of the first documents that chains have at a time.
-fn first_standing(
+/// Puts a document alone under its `_id`, from a time on.
+fn store(
+    chains: &mut BTreeMap<Value, Chain>,
     alloc: Global,
-    chains: Range<'_, Value, Chain>,
     time: u64,
-    most: usize,
-) -> Result<Documents, NoMemory>
-    ensures { IfOk result (λ ds. ds ≡ take most (filter_map (λ e. chain_at time e.1) chains.entry)) }
+    document: Document,
+) -> Result<(), NoMemory>
+    requires kept { IsKept chains.old }
+    requires whole { IsStored document }
+    ensures stored { OnOk result (filed chains.new ≡ with_first time (filed chains.old) document) }
+    ensures kept { OnOk result (IsKept chains.new) }
 {
-    let mut documents = Vec::new(alloc);
-    for (_, chain) in chains {
-        if documents.len() >= most {
-            return Ok(Sequence::from_vec(documents));
-        }
-        if let Some(document) = chain.at(time) {
-            documents.push(document.copy()?)?;
-        }
+    let id = document.copy_id(alloc)?;
+    let version = Version {
+        time,
+        document: Some(document),
+    };
+    chains.insert(id, Chain::of(alloc, version)?)?;
+    Ok(())
+}
+
+/// The chains whose `_id`s are above one, if one is given.
+fn chains_above<'a>(
+    chains: &'a BTreeMap<Value, Chain>,
+    after: Option<&Value>,
+) -> Range<'a, Value, Chain>
+    ensures { result ≡ chains_above (option_copied after.entry) chains.now.entries }
+{
+    match after {
+        Some(id) => chains.range((Bound::Excluded(id), Bound::Unbounded)),
+        None => chains.range(..),
     }
-    Ok(Sequence::from_vec(documents))
 }

@@ -1,5 +1,5 @@
-use Rattle.resh_versions.proofs.Listing.{stands_by_reading}
 use Rattle.resh_versions.proofs.Pruning.{prunes_unseen}
+use Rattle.resh_versions.proofs.Storing.{stores_last}
 use Rattle.resh_versions.proofs.WriteLaws.{adds_version, keeps_filed, reads_now, starts_empty, takes_back}
 use Rattle.resh_versions.proofs.laws.version_laws.Goals as goal
 
@@ -15,8 +15,8 @@ returns-clause-reads_now c = reads_now
 pub returns-clause-prunes : goal.returns-clause-prunes
 returns-clause-prunes c = prunes_unseen
 
-pub returns-clause-stands : goal.returns-clause-stands
-returns-clause-stands c = stands_by_reading
+pub returns-clause-stores : goal.returns-clause-stores
+returns-clause-stores c = stores_last
 
 pub returns-clause-starts : goal.returns-clause-starts
 returns-clause-starts c = starts_empty

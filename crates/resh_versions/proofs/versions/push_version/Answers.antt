@@ -23,11 +23,11 @@ returns-in_err-push-clause-kept c =
 
 pub returns-in-Some-clause-ok : goal.returns-in-Some-clause-ok
 returns-in-Some-clause-ok c =
-    (pushed_found c.args.chains.now (c.get_mut.follows.lender c.push.new.self) c.args.id c.args.version c.requires.kept c.requires.named c.in-Some.chain.now c.push.new.self c.in-Some.ensures.value c.in_ok-push.ensures.ok (c.get_mut.follows.holds c.push.new.self)).0
+    (pushed_found c.args.chains.now (c.get_mut.follows.lender c.push.new.self) c.args.id c.args.version c.requires.kept c.requires.stands c.in-Some.chain.now c.push.new.self c.in-Some.ensures.value c.in_ok-push.ensures.ok (c.get_mut.follows.holds c.push.new.self)).0
 
 pub returns-in-Some-clause-kept : goal.returns-in-Some-clause-kept
 returns-in-Some-clause-kept c =
-    (pushed_found c.args.chains.now (c.get_mut.follows.lender c.push.new.self) c.args.id c.args.version c.requires.kept c.requires.named c.in-Some.chain.now c.push.new.self c.in-Some.ensures.value c.in_ok-push.ensures.ok (c.get_mut.follows.holds c.push.new.self)).1
+    (pushed_found c.args.chains.now (c.get_mut.follows.lender c.push.new.self) c.args.id c.args.version c.requires.kept c.requires.stands c.in-Some.chain.now c.push.new.self c.in-Some.ensures.value c.in_ok-push.ensures.ok (c.get_mut.follows.holds c.push.new.self)).1
 
 pub returns-in_err-insert-clause-kept : goal.returns-in_err-insert-clause-kept
 returns-in_err-insert-clause-kept c =
@@ -35,8 +35,8 @@ returns-in_err-insert-clause-kept c =
 
 pub returns-clause-ok : goal.returns-clause-ok
 returns-clause-ok c =
-    (pushed_new c.args.chains.now c.insert.new.self c.args.id c.args.version c.requires.kept c.requires.named c.in_ok-of.field-0 c.get_mut.follows.lender-at-none c.in_default.ensures.value c.in_ok-of.ensures c.get_mut.follows.holds-at-none c.insert.ensures.ordered c.in_ok-insert.ensures.updates).0
+    (pushed_new c.args.chains.now c.insert.new.self c.args.id c.args.version c.requires.kept c.requires.stands c.in_ok-of.field-0 c.get_mut.follows.lender-at-none c.in_default.ensures.value c.in_ok-of.ensures c.get_mut.follows.holds-at-none c.insert.ensures.ordered c.in_ok-insert.ensures.updates).0
 
 pub returns-clause-kept : goal.returns-clause-kept
 returns-clause-kept c =
-    (pushed_new c.args.chains.now c.insert.new.self c.args.id c.args.version c.requires.kept c.requires.named c.in_ok-of.field-0 c.get_mut.follows.lender-at-none c.in_default.ensures.value c.in_ok-of.ensures c.get_mut.follows.holds-at-none c.insert.ensures.ordered c.in_ok-insert.ensures.updates).1
+    (pushed_new c.args.chains.now c.insert.new.self c.args.id c.args.version c.requires.kept c.requires.stands c.in_ok-of.field-0 c.get_mut.follows.lender-at-none c.in_default.ensures.value c.in_ok-of.ensures c.get_mut.follows.holds-at-none c.insert.ensures.ordered c.in_ok-insert.ensures.updates).1

@@ -1,16 +1,24 @@
-use Rattle.std.proofs.Common.{◌∙◌, ap, sym, take, Some, None}
-use Rattle.std.proofs.lemmas.Result.{IfOk-weaker}
-use Rattle.std.specs.Option.{option_copied}
-use Rattle.resh_versions.specs.Standing.{standing_after}
-use Rattle.resh_versions.proofs.Scanning.{standing_filed}
+use Rattle.std.proofs.Common.{◌≡◌, ◌∙◌, Bor, take, refl, ap, sym, subst}
+use Rattle.std.proofs.lemmas.Iterator.{YieldsList-from_take}
+use Rattle.std.proofs.lemmas.Iterator.Consumers.{YieldsList-at, YieldsList-end, YieldsList-from_first}
+use Rattle.std.proofs.lemmas.List.Elements.{All-take}
+use Rattle.std.specs.List.{All}
+use Rattle.resh_versions.specs.Chains.{Document, IsStored}
 use Rattle.resh_versions.proofs.versions.Versions.scan_at.Goals as goal
 
-pub returns-in-Some : goal.returns-in-Some
-returns-in-Some c =
-    let stands = standing_filed c.self.inside.chains c.args.self.now c.args.time (Some c.in-Some.id.now) _ c.self.invariant (ap (λ s. s.chains) c.self.view_is) (c.range-above.ensures.between tt) in
-    IfOk-weaker c.first_standing.result _ _ (λ ds is. is ∙ ap (take c.args.most) (stands ∙ ap (λ a. standing_after c.args.self.now c.args.time (option_copied a)) (sym c.in-Some.is))) c.first_standing.ensures
+-- the copies are the first documents of the walk
+copied : (c : goal.After-from_vec) → c.from_vec.result ≡ take c.args.most c.walk_at.result
+copied c =
+    let seen = YieldsList-end
+    (YieldsList-at c.into_iter-document-iterator.ensures.into_iter_gives
+    (YieldsList-from_take c.args.most
+    (YieldsList-at c.take-document-items.ensures.source (YieldsList-from_first (λ (b : Bor Document). b.now) (λ s. s) c.walk_at.result refl))
+    c.take-document-items.ensures.count))
+    c.loop-document.yielded _ c.loop-document.yielded_by _ _ c.in-None.is c.next.ensures.steps in
+    c.from_vec.ensures ∙ c.loop-document.invariant ∙ seen.0
 
-pub returns-in-None : goal.returns-in-None
-returns-in-None c =
-    let stands = standing_filed c.self.inside.chains c.args.self.now c.args.time None _ c.self.invariant (ap (λ s. s.chains) c.self.view_is) (c.range.ensures.between tt) in
-    IfOk-weaker c.first_standing-in-None.result _ _ (λ ds is. is ∙ ap (take c.args.most) (stands ∙ ap (λ a. standing_after c.args.self.now c.args.time (option_copied a)) (sym c.in-None.is))) c.first_standing-in-None.ensures
+pub returns-clause-listed : goal.returns-clause-listed
+returns-clause-listed c = copied c ∙ ap (take c.args.most) c.walk_at.ensures.listed
+
+pub returns-clause-whole : goal.returns-clause-whole
+returns-clause-whole c = subst (All IsStored) (sym (copied c)) (All-take IsStored c.args.most c.walk_at.result c.walk_at.ensures.whole)
