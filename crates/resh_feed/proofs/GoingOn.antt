@@ -13,14 +13,14 @@ use Rattle.resh_value.specs.Lookup.{id_of}
 use Rattle.resh_value.specs.Order.{compare_of}
 use Rattle.resh_value.specs.OrderLaws.{compare_total}
 use Rattle.resh_value.specs.declared.value.Value.{Value}
-use Rattle.resh_stamp.specs.Laws.{IsMark}
 use Rattle.resh_stamp.specs.Times.{mark_cmp}
 use Rattle.resh_stamp.specs.Times as times
-use Rattle.resh_stamp.proofs.Orders.{mark_total, times_end}
+use Rattle.resh_stamp.proofs.Orders.{mark_total}
 use Rattle.resh_stamp.specs.declared.stamp.Mark.{Mark}
-use Rattle.resh_oplog.specs.Logs.{entries_after, is_above, is_for, mark_of, IsRising}
+use Rattle.resh_oplog.specs.Logs.{AreMarked, IsRising, entries_after, is_above, is_for, later_entries, mark_of}
+use Rattle.resh_oplog.proofs.Later.{reads_later}
 use Rattle.resh_oplog.specs.declared.entry.Entry.{Entry}
-use Rattle.resh_feed.specs.Feeds.{entries_to, is_past, later, next_documents, next_entries}
+use Rattle.resh_feed.specs.Feeds.{is_past, next_documents, next_entries}
 use Rattle.resh_feed.specs.Items.{Document, has_final, last_id_of, last_mark_of, up_to_final}
 use Rattle.resh_feed.proofs.Cutting.{behind_front, final_take}
 
@@ -107,69 +107,54 @@ past_up time e x p a =
     (λ (on : e.stamp.time ≤ x.stamp.time). of_lt time x.stamp.time (omega arith))
     (cases_lt x.stamp.time e.stamp.time)
 
-all_past : (time : ℕ) (log : List Entry) → AllByRecursion (λ e. past time e ≡ true) (later time log)
-all_past time [] = tt
-all_past time (e ∷ es) = by (past time e) refl (all_past time es)
-  where
-    by : (b : Bool) → past time e ≡ b → AllByRecursion (λ x. past time x ≡ true) (later time es) → AllByRecursion (λ x. past time x ≡ true) (cond b (e ∷ later time es) (later time es))
-    by true h rest = (h, rest)
-    by false h rest = rest
-
-all_kept : (P : Entry → Type 0) (p : Entry → Bool) (es : List Entry) → AllByRecursion P es → AllByRecursion P (filter p es)
-all_kept P p [] all = tt
-all_kept P p (e ∷ es) all = elim (p e) as (λ b. AllByRecursion P (cond b (e ∷ filter p es) (filter p es))) [ true ↦ (all.0, all_kept P p es all.1) | false ↦ all_kept P p es all.1 ]
-
 one_of : (P : Entry → Type 0) (front : List Entry) (e : Entry) (rest : List Entry) → AllByRecursion P (front ++ e ∷ rest) → P e
 one_of P [] e rest all = all.0
 one_of P (x ∷ xs) e rest all = one_of P xs e rest all.1
 
--- a test that others follow from is made of both
-module _ (for late above : Entry → Bool) (follows : (x : Entry) → above x ≡ true → late x ≡ true) where
-  pub thrice : (log : List Entry) → filter (λ x. above x && for x) log ≡ filter above (filter for (filter late log))
-  thrice [] = refl
-  thrice (x ∷ xs) = by (above x) refl (for x) refl (late x) refl (thrice xs)
+-- of entries that pass two tests, those that pass one from which the first follows
+module _ (late for above : Entry → Bool) (follows : (x : Entry) → above x ≡ true → late x ≡ true) where
+  pub twice : (log : List Entry) → filter (λ x. above x && for x) log ≡ filter above (filter (λ x. late x && for x) log)
+  twice [] = refl
+  twice (x ∷ xs) = by (above x) refl (late x) refl (for x) refl (twice xs)
     where
-      by : (a : Bool) → above x ≡ a → (f : Bool) → for x ≡ f → (l : Bool) → late x ≡ l → filter (λ y. above y && for y) xs ≡ filter above (filter for (filter late xs))
-          → cond (above x && for x) (x ∷ filter (λ y. above y && for y) xs) (filter (λ y. above y && for y) xs) ≡ filter above (filter for (cond (late x) (x ∷ filter late xs) (filter late xs)))
-      by true a true f true l rest = grind (arith, a, f, l, rest)
-      by true a true f false l rest = let never : true ≡ false = sym (follows x a) ∙ l in cc
-      by true a false f true l rest = grind (arith, a, f, l, rest)
-      by true a false f false l rest = grind (arith, a, f, l, rest)
-      by false a true f true l rest = grind (arith, a, f, l, rest)
-      by false a true f false l rest = grind (arith, a, f, l, rest)
-      by false a false f true l rest = grind (arith, a, f, l, rest)
-      by false a false f false l rest = grind (arith, a, f, l, rest)
+      by : (a : Bool) → above x ≡ a → (l : Bool) → late x ≡ l → (f : Bool) → for x ≡ f → filter (λ y. above y && for y) xs ≡ filter above (filter (λ y. late y && for y) xs)
+          → cond (above x && for x) (x ∷ filter (λ y. above y && for y) xs) (filter (λ y. above y && for y) xs) ≡ filter above (cond (late x && for x) (x ∷ filter (λ y. late y && for y) xs) (filter (λ y. late y && for y) xs))
+      by true a true l true f rest = grind (arith, a, l, f, rest)
+      by true a true l false f rest = grind (arith, a, l, f, rest)
+      by true a false l f g rest = let never : true ≡ false = sym (follows x a) ∙ l in cc
+      by false a true l true f rest = grind (arith, a, l, f, rest)
+      by false a true l false f rest = grind (arith, a, l, f, rest)
+      by false a false l f g rest = grind (arith, a, l, rest)
+
+module _ (late for : Entry → Bool) where
+  pub all_late : (log : List Entry) → AllByRecursion (λ x. late x ≡ true) (filter (λ x. late x && for x) log)
+  all_late [] = tt
+  all_late (x ∷ xs) = by (late x) refl (for x) (all_late xs)
+    where
+      by : (l : Bool) → late x ≡ l → (f : Bool) → AllByRecursion (λ y. late y ≡ true) (filter (λ y. late y && for y) xs) → AllByRecursion (λ y. late y ≡ true) (cond (l && f) (x ∷ filter (λ y. late y && for y) xs) (filter (λ y. late y && for y) xs))
+      by true l true rest = (l, rest)
+      by true l false rest = rest
+      by false l f rest = rest
 
 -- the entries behind those that were read
-pub goes_on : (log : List Entry) → IsRising log → (time r : ℕ) (front : List Entry) (e : Entry) (rest : List Entry) → entries_to r time log ≡ front ++ e ∷ rest → entries_after (Some (mark_of e)) r log ≡ rest
+pub goes_on : (log : List Entry) → IsRising log → (time r : ℕ) (front : List Entry) (e : Entry) (rest : List Entry) → later_entries time r log ≡ front ++ e ∷ rest → entries_after (Some (mark_of e)) r log ≡ rest
 goes_on log rising time r front e rest is =
-    let sorted : IsStrictlySortedBy mark_cmp (map mark_of (entries_to r time log)) =
-    rising_filter mark_of mark_cmp mark_total (λ x. is_for r x.to) (later time log) (rising_filter mark_of mark_cmp mark_total (past time) log rising) in
-    let p : past time e ≡ true = one_of (λ x. past time x ≡ true) front e rest (subst (AllByRecursion (λ x. past time x ≡ true)) is (all_kept (λ x. past time x ≡ true) (λ x. is_for r x.to) (later time log) (all_past time log))) in
-    thrice (λ x. is_for r x.to) (past time) (λ x. is_above (Some (mark_of e)) (mark_of x)) (λ x a. past_up time e x p a) log
-    ∙ ap (filter (λ x. is_above (Some (mark_of e)) (mark_of x))) is
+    let for : Entry → Bool = λ x. is_for r x.to in
+    let above_it : Entry → Bool = λ x. is_above (Some (mark_of e)) (mark_of x) in
+    let sorted : IsStrictlySortedBy mark_cmp (map mark_of (later_entries time r log)) = rising_filter mark_of mark_cmp mark_total (λ x. past time x && for x) log rising in
+    let p : past time e ≡ true = one_of (λ x. past time x ≡ true) front e rest (subst (AllByRecursion (λ x. past time x ≡ true)) is (all_late (past time) for log)) in
+    twice (past time) for above_it (λ x a. past_up time e x p a) log
+    ∙ ap (filter above_it) is
     ∙ above_rest mark_of mark_cmp mark_total front e rest (subst (λ es. IsStrictlySortedBy mark_cmp (map mark_of es)) is sorted)
 
--- the entries above the last mark of a time
-pub above_time : (time r : ℕ) (log : List Entry) → AllByRecursion (λ e. IsMark (mark_of e)) log → entries_after (Some (times.last_mark_of time)) r log ≡ entries_to r time log
-above_time time r [] small = refl
-above_time time r (x ∷ xs) small =
-    ap (λ b. cond (b && is_for r x.to) (x ∷ entries_after (Some (times.last_mark_of time)) r xs) (entries_after (Some (times.last_mark_of time)) r xs)) (times_end time (mark_of x) small.0)
-    ∙ ap (λ l. cond (past time x && is_for r x.to) (x ∷ l) l) (above_time time r xs small.1)
-    ∙ by (past time x) (is_for r x.to) refl
-  where
-    by : (b f : Bool) → is_for r x.to ≡ f → cond (b && is_for r x.to) (x ∷ entries_to r time xs) (entries_to r time xs) ≡ filter (λ e. is_for r e.to) (cond b (x ∷ later time xs) (later time xs))
-    by true f h = refl
-    by false f h = refl
-
 -- what is fetched next
-pub entries_on : (r time most : ℕ) (log read rest : List Entry) → IsRising log → AllByRecursion (λ e. IsMark (mark_of e)) log
-    → up_to_final (entries_to r time log) ≡ read ++ rest → has_final read ≡ false → up_to_final (take most (next_entries r time read log)) ≡ take most rest
+pub entries_on : (r time most : ℕ) (log read rest : List Entry) → IsRising log → AreMarked log
+    → up_to_final (later_entries time r log) ≡ read ++ rest → has_final read ≡ false → up_to_final (take most (next_entries r time read log)) ≡ take most rest
 entries_on r time most log read rest rising small is none =
-    let more = behind_front (entries_to r time log) read rest is none in
+    let more = behind_front (later_entries time r log) read rest is none in
     let next : next_entries r time read log ≡ more.0 =
     ⊎_elim
-    (λ empty. ap (λ es. next_entries r time es log) empty ∙ above_time time r log small ∙ more.1 ∙ ap (λ es. es ++ more.0) empty)
+    (λ empty. ap (λ es. next_entries r time es log) empty ∙ reads_later time r log small ∙ more.1 ∙ ap (λ es. es ++ more.0) empty)
     (λ some.
     let last : last_mark_of read ≡ Some (mark_of some.1) = ap last_mark_of some.2 ∙ fold-append (λ (before : Option Mark) (e : Entry). Some (mark_of e)) None some.0 (some.1 ∷ []) in
     ap (λ m. entries_after (Some (unwrap_or m (times.last_mark_of time))) r log) last

@@ -9,12 +9,13 @@ use Rattle.resh_value.specs.OrderLaws.{same_from_test}
 use Rattle.resh_value.specs.declared.value.Value.{Value}
 use Rattle.resh_value.specs.declared.value.Value.TheVariants.{Null}
 use Rattle.resh_oplog.specs.Logs.{is_whole}
+use Rattle.resh_oplog.proofs.Contents.{says_whole}
 use Rattle.resh_oplog.specs.declared.entry.What.{What}
 use Rattle.resh_oplog.specs.declared.entry.What.TheVariants.{Insert, Update, Delete, Final}
 use Rattle.resh_feed.specs.Items.{Document}
 use Rattle.resh_feed.specs.Lanes.{id_lane, is_on, lane_feed}
 use Rattle.resh_feed.specs.Laws.{AllWhole}
-use Rattle.resh_feed.specs.Effects.{effect_of, effects_on, turn, writes}
+use Rattle.resh_feed.specs.Effects.{AreFormed, IsFormed, effect_of, effects_on, turn, writes}
 
 pub same_number : (n : ℕ) → (n == n) ≡ true
 same_number n = ⊎_elim (λ k. k.0) (λ k. absurd (k.1 refl)) (eqb_tells n n)
@@ -28,7 +29,7 @@ module _ (id : Value) (n : ℕ) where
   on_by (Some v) h same = own_lane v same
 
   on_own : (w : What) → is_whole w ≡ true → writes id w ≡ true → is_on n (id_lane id n) w ≡ true
-  on_own (Insert d) h same = on_by (field_of d (codes "_id")) h same
+  on_own (Insert d) h same = on_by (field_of d (codes "_id")) ((says_whole.inserts d).0 h).id same
   on_own (Update own c) h same = own_lane own same
   on_own (Delete own) h same = own_lane own same
   on_own Final h same = cc
@@ -50,7 +51,7 @@ module _ (id : Value) (n : ℕ) where
   by_other lane apart (Some v) h same = ap (λ x. id_lane x n == lane) (sym (same_from_test id v same)) ∙ apart
 
   off_other : (lane : ℕ) → (id_lane id n == lane) ≡ false → (w : What) → is_whole w ≡ true → writes id w ≡ true → is_on n lane w ≡ false
-  off_other lane apart (Insert d) h same = by_other lane apart (field_of d (codes "_id")) h same
+  off_other lane apart (Insert d) h same = by_other lane apart (field_of d (codes "_id")) ((says_whole.inserts d).0 h).id same
   off_other lane apart (Update own c) h same = ap (λ x. id_lane x n == lane) (sym (same_from_test id own same)) ∙ apart
   off_other lane apart (Delete own) h same = ap (λ x. id_lane x n == lane) (sym (same_from_test id own same)) ∙ apart
   off_other lane apart Final h same = cc
@@ -63,3 +64,14 @@ module _ (id : Value) (n : ℕ) where
       by rest false e c f = rest
       by rest true e true f = let no : true ≡ false = sym e ∙ off_other lane apart w h.0 f in cc
       by rest true e false f = ap (λ x. effects_on id (lane_feed n lane ws) (cond x (effect_of w s) s)) f ∙ rest
+
+-- the names of what is whole rise
+whole_formed : (w : What) → is_whole w ≡ true → IsFormed w
+whole_formed (Insert d) h = ((says_whole.inserts d).0 h).rising
+whole_formed (Update id c) h = (says_whole.updates id c).0 h
+whole_formed (Delete id) h = tt
+whole_formed Final h = tt
+
+pub all_formed : (ws : List What) → AllWhole ws → AreFormed ws
+all_formed [] h = tt
+all_formed (w ∷ ws) h = (whole_formed w h.0, all_formed ws h.1)

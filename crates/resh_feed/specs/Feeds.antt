@@ -1,23 +1,15 @@
 -- The feed of a donor for a recipient: what the donor held at the fetch time for it, then its later entries for it.
-use Rattle.std.specs.Prelude.{ℕ, Bool, true, nat_lt, List, ◌++◌, map, filter, Option, Some, None, unwrap_or}
+use Rattle.std.specs.Prelude.{ℕ, Bool, true, List, ◌++◌, map, filter, Option, Some, None, unwrap_or}
 use Rattle.std.specs.Ordering.{is_lt}
 use Rattle.resh_value.specs.Lookup.{id_of}
 use Rattle.resh_value.specs.Order.{compare_of}
 use Rattle.resh_value.specs.declared.value.Value.{Value}
 use Rattle.resh_stamp.specs.Times as times
-use Rattle.resh_oplog.specs.Logs.{entries_after, is_for}
+use Rattle.resh_oplog.specs.Logs.{entries_after, later_entries}
 use Rattle.resh_oplog.specs.declared.entry.Entry.{Entry}
 use Rattle.resh_oplog.specs.declared.entry.What.{What}
 use Rattle.resh_feed.specs.Items.{Document, cloned_item, fetched_item, last_id_of, last_mark_of, up_to_final}
 use Rattle.resh_feed.specs.declared.item.Item.{Item}
-
--- the entries of a later time
-abbrev pub later : ℕ → List Entry → List Entry
-later time log = filter (λ entry. nat_lt time entry.stamp.time) log
-
--- those that are destined to a recipient
-abbrev pub entries_to : ℕ → ℕ → List Entry → List Entry
-entries_to recipient time log = filter (λ entry. is_for recipient entry.to) (later time log)
 
 -- the items of documents and of entries
 abbrev pub items_of : List Document → List Entry → List Item
@@ -26,7 +18,8 @@ items_of documents entries = map cloned_item documents ++ map fetched_item entri
 -- the items of a feed: the documents, by `_id`, that were held at the fetch time and whose new owner is the recipient,
 -- and the later entries for it, up to its final one
 abbrev pub feed_items : ℕ → ℕ → List Document → List Entry → List Item
-feed_items recipient fetch_time documents log = items_of documents (up_to_final (entries_to recipient fetch_time log))
+feed_items recipient fetch_time documents log =
+    items_of documents (up_to_final (later_entries fetch_time recipient log))
 
 abbrev pub whats : List Item → List What
 whats items = map (λ item. item.what) items

@@ -5,12 +5,11 @@ use Rattle.std.specs.List.Sorted.{IsStrictlySortedBy}
 use Rattle.resh_value.specs.Lookup.{id_of}
 use Rattle.resh_value.specs.Order.{compare_of}
 use Rattle.resh_value.specs.declared.value.Value.{Value}
-use Rattle.resh_stamp.specs.Laws.{IsMark}
-use Rattle.resh_oplog.specs.Logs.{IsRising, id_written, is_whole, mark_of}
+use Rattle.resh_oplog.specs.Logs.{AreMarked, IsRising, id_written, is_whole, later_entries}
 use Rattle.resh_oplog.specs.declared.entry.Entry.{Entry}
 use Rattle.resh_oplog.specs.declared.entry.What.{What}
 use Rattle.resh_feed.specs.Effects.{AreFormed, IsFormed, IsFormedSlot, effects_on, turn}
-use Rattle.resh_feed.specs.Feeds.{entries_to, next_documents, next_entries}
+use Rattle.resh_feed.specs.Feeds.{next_documents, next_entries}
 use Rattle.resh_feed.specs.Fits.{FitsSlot}
 use Rattle.resh_feed.specs.Items.{Document, has_final, up_to_final}
 use Rattle.resh_feed.specs.Lanes.{counts_after, id_lane, lane_feed}
@@ -39,9 +38,13 @@ pub record GoesOnFitting : Type 0 where
   pub ended : (id : Value) (feed : List What) (at high : ℕ) (slot : Option Document)
       → at ≡ length feed → high ≡ length feed → FitsSlot id feed at high slot → slot ≡ effects_on id feed None
 
--- each item has the `_id` that it writes
+-- what each item writes is whole
 abbrev pub AllWhole : List What → Type 0
 AllWhole whats = AllByRecursion (λ what. is_whole what ≡ true) whats
+
+-- the names of what is whole rise
+abbrev pub WholeIsFormed : Type 0
+WholeIsFormed = (whats : List What) → AllWhole whats → AreFormed whats
 
 -- a lane's part of a feed
 pub record PartsByLane : Type 0 where
@@ -68,6 +71,6 @@ pub record ReadsOn : Type 0 where
       → next_documents read (read ++ rest) ≡ rest
   -- and in the log, before a final entry for the recipient was read
   pub entries : (recipient fetch_time most : ℕ) (log read rest : List Entry)
-      → IsRising log → AllByRecursion (λ entry. IsMark (mark_of entry)) log
-      → up_to_final (entries_to recipient fetch_time log) ≡ read ++ rest → has_final read ≡ false
+      → IsRising log → AreMarked log
+      → up_to_final (later_entries fetch_time recipient log) ≡ read ++ rest → has_final read ≡ false
       → up_to_final (take most (next_entries recipient fetch_time read log)) ≡ take most rest

@@ -1,6 +1,6 @@
 //! Laws of feeds and slots, as the contract of a function that does nothing.
 
-ghost use Rattle.resh_feed.specs.Laws.{Absorbs, GoesOnFitting, PartsByLane, ReadsOn};
+ghost use Rattle.resh_feed.specs.Laws.{Absorbs, GoesOnFitting, PartsByLane, ReadsOn, WholeIsFormed};
 
 /// An item that comes again before items among which it stands changes nothing of what they leave. So a slot that fits
 /// its feed fits it with the next item, after going back, and once the feed is longer, and at the end is what the feed
@@ -9,6 +9,7 @@ ghost use Rattle.resh_feed.specs.Laws.{Absorbs, GoesOnFitting, PartsByLane, Read
 pub fn feed_laws()
     ensures absorbs { Absorbs }
     ensures fits { GoesOnFitting }
+    ensures formed { WholeIsFormed }
     ensures lanes { PartsByLane }
     ensures reads { ReadsOn }
 {}

@@ -1,4 +1,4 @@
-mod Contents
-mod Later
+pub mod Contents
+pub mod Later
 mod Reading
 mod Rising

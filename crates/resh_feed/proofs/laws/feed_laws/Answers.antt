@@ -2,7 +2,7 @@ use Rattle.std.proofs.Common.{arith}
 use Rattle.resh_oplog.specs.declared.entry.What.{What}
 use Rattle.resh_feed.proofs.Absorbing.{absorbed}
 use Rattle.resh_feed.proofs.Fitting.{fits_back, fits_at_end, fits_empty, fits_longer, fits_next, formed_at}
-use Rattle.resh_feed.proofs.LaneFeeding.{own_effects, other_effects}
+use Rattle.resh_feed.proofs.LaneFeeding.{all_formed, own_effects, other_effects}
 use Rattle.resh_feed.proofs.Positions.{count_is, item_there}
 use Rattle.resh_feed.proofs.GoingOn.{documents_on, entries_on}
 use Rattle.resh_feed.proofs.laws.feed_laws.Goals as goal
@@ -18,6 +18,9 @@ returns-clause-fits c = record {
   longer = fits_longer;
   ended = fits_at_end;
 }
+
+pub returns-clause-formed : goal.returns-clause-formed
+returns-clause-formed c = all_formed
 
 pub returns-clause-lanes : goal.returns-clause-lanes
 returns-clause-lanes c = record {
