@@ -1,5 +1,5 @@
 -- What is read past the last mark of a time is of a later time.
-use Rattle.std.proofs.Common.{◌≡◌, ℕ, Bool, true, false, cond, ◌&&◌, nat_lt, List, [], ◌∷◌, filter, Some, refl, ap, ◌∙◌}
+use Rattle.std.proofs.Common.{◌≡◌, ℕ, cond, ◌&&◌, nat_lt, List, [], ◌∷◌, Some, refl, ap, ◌∙◌}
 use Rattle.std.proofs.lemmas.List.Elements.{All-head, All-tail}
 use Rattle.resh_stamp.specs.Laws.{IsMark}
 use Rattle.resh_stamp.specs.Times.{last_mark_of}
@@ -15,11 +15,3 @@ reads_later time recipient (e ∷ es) marked =
     (times_end time (mark_of e) (All-head (λ (x : Entry). IsMark (mark_of x)) e es marked))
     ∙ ap (λ rest. cond (nat_lt time e.stamp.time && is_for recipient e.to) (e ∷ rest) rest)
     (reads_later time recipient es (All-tail (λ (x : Entry). IsMark (mark_of x)) e es marked))
-    ∙ by (nat_lt time e.stamp.time)
-  where
-    later : List Entry
-    later = filter (λ x. nat_lt time x.stamp.time) es
-
-    by : (b : Bool) → cond (b && is_for recipient e.to) (e ∷ later_entries time recipient es) (later_entries time recipient es) ≡ filter (λ x. is_for recipient x.to) (cond b (e ∷ later) later)
-    by true = refl
-    by false = refl

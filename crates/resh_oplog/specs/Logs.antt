@@ -87,4 +87,4 @@ entries_after mark recipient entries =
 -- the entries of a later time that are destined to a recipient
 abbrev pub later_entries : ℕ → ℕ → List Entry → List Entry
 later_entries time recipient entries =
-    filter (λ entry. is_for recipient entry.to) (filter (λ entry. nat_lt time entry.stamp.time) entries)
+    filter (λ entry. nat_lt time entry.stamp.time && is_for recipient entry.to) entries
