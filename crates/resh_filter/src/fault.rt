@@ -1,8 +1,17 @@
-ghost use Rattle.std.specs.Prelude.{◌≡◌, ◌≢◌, ◌++◌};
-ghost use Rattle.resh_value.specs.Paths.{to_name};
+ghost use Rattle.std.specs.Prelude.{◌≡◌};
+ghost use Rattle.resh_value.specs.Walk.{as_kind};
+ghost use Rattle.resh_filter.specs.Filters.{fault_of};
 
-use resh_value::{NoMemory, ValueFault, Words, path_to_name};
-use std::alloc::Global;
+use resh_value::{NoMemory, ValueFault, ValueFaultKind, WalkFault, Words};
+
+/// What makes a JSON value no filter.
+#[derive(Debug, Drop)]
+pub enum FilterFaultKind {
+    /// A top-level name with a dot.
+    DottedName,
+    /// No object, or one with a value that is none.
+    Value(ValueFaultKind),
+}
 
 /// Why a JSON value is no filter, with the place as a JSON Pointer.
 #[derive(Debug, Drop)]
@@ -25,23 +34,32 @@ impl From<NoMemory> for FilterFault {
     }
 }
 
-/// The fault of a dotted name in the object at `path`.
-pub(crate) fn dotted_name(alloc: Global, path: &Words, name: &str) -> FilterFault
-    ensures { result ≢ FilterFault.NoMemory → result ≡ FilterFault.DottedName (path.now ++ to_name name.now) }
-{
-    match path_to_name(alloc, path, name) {
-        Ok(path) => FilterFault::DottedName { path },
-        Err(NoMemory) => FilterFault::NoMemory,
+impl FilterFault {
+    /// What a walk ended with, as it is answered.
+    pub fn of(fault: WalkFault<FilterFaultKind>) -> FilterFault
+        ensures { result ≡ fault_of fault }
+    {
+        match fault {
+            WalkFault::At { path, kind } => match kind {
+                FilterFaultKind::DottedName => FilterFault::DottedName { path },
+                FilterFaultKind::Value(kind) => {
+                    FilterFault::Value(ValueFault::of(WalkFault::At { path, kind }))
+                }
+            },
+            WalkFault::NoMemory => FilterFault::NoMemory,
+        }
     }
 }
 
-/// The fault of a value; want of memory stays what it is.
-pub(crate) fn in_value(fault: ValueFault) -> FilterFault
-    ensures fault { result ≢ FilterFault.NoMemory → result ≡ FilterFault.Value fault }
-    ensures memory { fault ≡ ValueFault.NoMemory → result ≡ FilterFault.NoMemory }
+/// The fault of a value, as a filter's.
+pub(crate) fn in_value(fault: WalkFault<ValueFaultKind>) -> WalkFault<FilterFaultKind>
+    ensures { result ≡ as_kind FilterFaultKind.Value fault }
 {
     match fault {
-        ValueFault::NoMemory => FilterFault::NoMemory,
-        fault => FilterFault::Value(fault),
+        WalkFault::At { path, kind } => WalkFault::At {
+            path,
+            kind: FilterFaultKind::Value(kind),
+        },
+        WalkFault::NoMemory => WalkFault::NoMemory,
     }
 }

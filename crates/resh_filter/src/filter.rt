@@ -1,13 +1,17 @@
-ghost use Rattle.std.specs.Prelude.{◌≡◌, ◌↔◌, IsTrue, IfOk, option_map};
+ghost use Rattle.std.specs.Prelude.{◌≡◌, ◌≢◌, ◌↔◌, [], IsTrue, IfOk, option_map};
 ghost use Rattle.serde_json.specs.View.{view, members_view};
 ghost use Rattle.resh_value.specs.Outcome.{Gives};
-ghost use Rattle.resh_filter.specs.Filters.{HasValues, agrees, at_step, dotted_in, filter_of, first_dotted, gives, is_dotted, matches};
+ghost use Rattle.resh_value.specs.Paths.{to_name};
+ghost use Rattle.resh_value.specs.Walk.{under};
+ghost use Rattle.resh_filter.specs.Filters.{HasValues, agrees, at_step, dotted_in, fault_of, filter_of, first_dotted, gives, is_dotted, matches, under as under_answered, walked_filter};
 
-use crate::fault::{FilterFault, dotted_name, in_value};
-use resh_value::{Copied, Document, NoMemory, Value, Words, compare};
+use crate::fault::{FilterFault, FilterFaultKind, in_value};
+use resh_value::{Copied, DOT, Document, NoMemory, Value, WalkFault, Words, compare};
 use serde_json::{Map, Value as Json};
 use std::alloc::Global;
 use std::marker::Model;
+
+type Fault = WalkFault<FilterFaultKind>;
 
 /// What top-level fields have to equal, which contracts see as the list of (name, value). Null stands for a missing
 /// field too.
@@ -35,9 +39,19 @@ impl Filter {
     pub fn read(alloc: Global, json: &Json, path: &Words) -> Result<Filter, FilterFault>
         ensures { Gives FilterFault.NoMemory result (at_step path.now (filter_of (view json.now))) }
     {
+        match Filter::walk(alloc, json) {
+            Ok(filter) => Ok(filter),
+            Err(fault) => Err(answered_under(alloc, path, fault)),
+        }
+    }
+
+    /// The filter of a JSON object, or its first fault, with its path from here.
+    pub fn walk(alloc: Global, json: &Json) -> Result<Filter, Fault>
+        ensures { Gives WalkFault.NoMemory result (walked_filter (view json.now)) }
+    {
         match dotted_in(json) {
-            Some(name) => Err(dotted_name(alloc, path, name)),
-            None => match Document::from_json(alloc, json, path) {
+            Some(name) => Err(dotted_name(alloc, name)),
+            None => match Document::walk(alloc, json) {
                 Ok(fields) => Ok(Filter { fields }),
                 Err(fault) => Err(in_value(fault)),
             },
@@ -81,6 +95,20 @@ impl Copied for Filter {
     }
 }
 
+fn dotted_name(alloc: Global, name: &str) -> Fault
+    ensures { result ≢ WalkFault.NoMemory → result ≡ under (to_name name.now) (WalkFault.At [] FilterFaultKind.DottedName) }
+{
+    WalkFault::here(alloc, FilterFaultKind::DottedName).under_name(alloc, name)
+}
+
+#[tactic(auto, using(crate::proofs::Answered::answered_under))]
+fn answered_under(alloc: Global, path: &Words, fault: Fault) -> FilterFault
+    ensures fault { result ≢ FilterFault.NoMemory → result ≡ under_answered path.now (fault_of fault) }
+    ensures memory { fault ≡ WalkFault.NoMemory → result ≡ FilterFault.NoMemory }
+{
+    FilterFault::of(fault.under(alloc, path))
+}
+
 /// The first dotted name of an object, in byte order.
 fn dotted_in(json: &Json) -> Option<&str>
     ensures { option_map (λ n. n.now) result ≡ dotted_in (view json.now) }
@@ -105,7 +133,7 @@ fn first_dotted(members: &Map<String, Json>) -> Option<&str>
 fn is_dotted(name: &str) -> bool
     ensures { result ≡ is_dotted name.now }
 {
-    name.as_bytes().contains(&b'.')
+    name.as_bytes().contains(&DOT)
 }
 
 fn all_agree(pairs: &[(Words, Value)], document: &Document) -> bool

@@ -7,6 +7,6 @@ mod laws;
 #[cfg(test)]
 mod tests;
 
-pub use fault::FilterFault;
+pub use fault::{FilterFault, FilterFaultKind};
 pub use filter::Filter;
 pub use laws::filter_laws;

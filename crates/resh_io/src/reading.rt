@@ -1,4 +1,5 @@
-// Reading to the end of input.
+//! Reading to the end of input.
+
 ghost use Rattle.std.specs.Prelude.{◌≡◌, ◌+◌, ◌^◌, ◌<◌, ◌≤◌, length, IsErrOf, vec_len};
 ghost use Rattle.resh_io.specs.Causes.{Rose};
 ghost use Rattle.resh_io.specs.Reading.{ReadsAll, ReadsSome};
@@ -7,7 +8,8 @@ use crate::{ReadFailed, Source};
 use std::alloc::Global;
 use thiserror::Error;
 
-const CHUNK: usize = 16384;
+/// The most bytes of one read.
+const CHUNK: usize = 65536;
 
 /// Why there is no whole input.
 #[derive(Clone, Copy, Debug, PartialEq, Eq, Error)]
@@ -34,10 +36,11 @@ pub fn read_all<S: Source>(
     ensures later { S.faults source.old ≤ S.faults source.new }
 {
     let mut bytes = Vec::new(alloc);
+    let mut chunk = [0u8; CHUNK];
     loop {
         // One byte past the limit shows that there are too many.
         let room = limit + 1 - bytes.len() as u64;
-        let count = read_some(source, &mut bytes, room)?;
+        let count = read_some(source, &mut bytes, &mut chunk, room)?;
         if count == 0 {
             return Ok(bytes);
         }
@@ -47,10 +50,11 @@ pub fn read_all<S: Source>(
     }
 }
 
-// Reads once, at most `room` bytes, and puts them behind those that are there.
+// Reads once, at most `room` bytes through the chunk, and puts them behind those that are there.
 fn read_some<S: Source>(
     source: &mut S,
     bytes: &mut Vec<u8>,
+    chunk: &mut [u8; CHUNK],
     room: u64,
 ) -> Result<usize, ReadAllFault>
     requires { 0 < room }
@@ -60,7 +64,6 @@ fn read_some<S: Source>(
         → Rose (S.faults source.old) (S.faults source.new) }
     ensures later { S.faults source.old ≤ S.faults source.new }
 {
-    let mut chunk = [0u8; CHUNK];
     let most = room.min(CHUNK as u64) as usize;
     read_through(source, bytes, &mut chunk[..most])
 }

@@ -1,4 +1,5 @@
 pub mod ActionLaws
+mod Answered
 mod Differences
 mod NumberLaws
 pub mod PathLaws

@@ -6,15 +6,17 @@ use Rattle.std.proofs.lemmas.List.Elements.{All-nil, All-cons, All-same, All-app
 use Rattle.std.proofs.lemmas.List.Splits.{length-slice_split}
 use Rattle.serde_json.specs.Data.{Data, null, boolean, number, string, array, object, Members, no_members, member}
 use Rattle.resh_value.specs.Outcome.{and_then, in_err}
-use Rattle.resh_value.specs.FromJson.{value_of}
+use Rattle.resh_value.specs.FromJson.{walked_value}
+use Rattle.resh_value.specs.Walk.{Walked, under, at_step, ends}
+use Rattle.resh_value.specs.Limits.{dot}
 use Rattle.resh_value.specs.Paths.{to_name}
-use Rattle.resh_value.specs.declared.fault.ValueFault.{ValueFault}
+use Rattle.resh_value.specs.declared.fault.ValueFaultKind.{ValueFaultKind}
 use Rattle.resh_value.specs.declared.value.Value.{Value, out-Value}
 use Rattle.resh_value.specs.declared.value.Value.TheOpen.{Value-F}
 use Rattle.resh_ops.specs.Paths.{Path}
 use Rattle.resh_ops.specs.Updates.{IsPath, path, other_path, paths_of, HasPaths, IsUpdate}
-use Rattle.resh_ops.specs.Reading.{Read, under, at_step, names_in, is_step, begins_with_id, path_of, with_value, of_kind, with_number, with_side, with_target, operator_with, action_in, actions_in, operator_in, operators_in, kind_of, update_of, without_conflict, apart_only, first_conflict}
-use Rattle.resh_ops.specs.declared.faults.UpdateFault.TheVariants.{IdPath, BadOperand}
+use Rattle.resh_ops.specs.Reading.{Read, names_in, is_step, begins_with_id, path_of, with_value, of_kind, with_number, with_side, with_target, operator_with, action_in, actions_in, operator_in, operators_in, kind_of, walked_update, without_conflict, apart_only, first_conflict}
+use Rattle.resh_ops.specs.declared.faults.UpdateFaultKind.TheVariants.{IdPath, BadOperand}
 use Rattle.resh_ops.specs.declared.kind.Kind.{Kind}
 use Rattle.resh_ops.specs.declared.kind.Kind.TheVariants.{AddToSet as ToAddToSet, Inc as ToInc, Max as ToMax, Min as ToMin, Mul as ToMul, Pop as ToPop, Push as ToPush, Rename as ToRename, Set as ToSet, Unset as ToUnset}
 use Rattle.resh_ops.specs.declared.operator.Action.{Action}
@@ -34,7 +36,7 @@ named_path : (names : Path) → 1 ≤ length names → begins_with_id names ≡ 
 named_path [] some other = absurd (omega arith)
 named_path (name ∷ rest) some other = path name rest other
 
-accepted : (good id : Bool) (names p : Path) (named : List ℕ) → cond good (cond id (Err IdPath) (Ok names)) (Err (BadOperand named)) ≡ Ok p → (id ≡ false) × (names ≡ p)
+accepted : (good id : Bool) (names p : Path) (named : List ℕ) → cond good (cond id (ends IdPath) (Ok names)) (ends (BadOperand named)) ≡ Ok p → (id ≡ false) × (names ≡ p)
 accepted true true names p named is = cc
 accepted true false names p named is = let same : names ≡ p = cc in (refl, same)
 accepted false id names p named is = cc
@@ -43,18 +45,18 @@ path_is_path : (named text : List ℕ) (p : Path) → path_of named text ≡ Ok 
 path_is_path named text p is =
     let names = names_in text in
     let s = accepted (list_all is_step names) (begins_with_id names) names p named is in
-    let some = length-slice_split (λ (b : ℕ). b == 46) text in
+    let some = length-slice_split (λ (b : ℕ). b == dot) text in
     subst IsPath s.1 (named_path names (omega arith) s.0)
 
 none_other : (o : Operator) → other_path o ≡ [] → All IsPath (other_path o)
 none_other o none = All-same IsPath (other_path o) [] none (All-nil IsPath)
 
 -- an operator that any value gives has one path alone
-from_value : (operator : Value → Operator) (r : Result Value ValueFault) (o : Operator) → ((v : Value) → other_path (operator v) ≡ []) → with_value operator r ≡ Ok o → All IsPath (other_path o)
+from_value : (operator : Value → Operator) (r : Walked ValueFaultKind Value) (o : Operator) → ((v : Value) → other_path (operator v) ≡ []) → with_value operator r ≡ Ok o → All IsPath (other_path o)
 from_value operator (Ok v) o none is = let same : operator v ≡ o = cc in subst (λ (x : Operator). All IsPath (other_path x)) same (none_other (operator v) (none v))
 from_value operator (Err fault) o none is = cc
 
-from_kind : (named : List ℕ) (f : Value-F Value → Read Operator) (r : Result Value ValueFault) (o : Operator)
+from_kind : (named : List ℕ) (f : Value-F Value → Read Operator) (r : Walked ValueFaultKind Value) (o : Operator)
     → ((v : Value-F Value) → f v ≡ Ok o → All IsPath (other_path o)) → of_kind named f r ≡ Ok o → All IsPath (other_path o)
 from_kind named f (Ok v) o each is = each (out-Value v) is
 from_kind named f (Err fault) o each is = cc
@@ -63,7 +65,7 @@ from_number : (named : List ℕ) (operator : ℤ → Operator) (o : Operator) �
 from_number named operator o none (Value-F.Int n) is = let same : operator n ≡ o = cc in subst (λ (x : Operator). All IsPath (other_path x)) same (none_other (operator n) (none n))
 from_number named operator o none other is = cc
 
-from_side : (named : List ℕ) (o : Operator) (last first : Bool) → cond last (Ok (Pop Last)) (cond first (Ok (Pop First)) (Err (BadOperand named))) ≡ Ok o → All IsPath (other_path o)
+from_side : (named : List ℕ) (o : Operator) (last first : Bool) → cond last (Ok (Pop Last)) (cond first (Ok (Pop First)) (ends (BadOperand named))) ≡ Ok o → All IsPath (other_path o)
 from_side named o true first is = let same : Pop Last ≡ o = cc in subst (λ (x : Operator). All IsPath (other_path x)) same (All-nil IsPath)
 from_side named o false true is = let same : Pop First ≡ o = cc in subst (λ (x : Operator). All IsPath (other_path x)) same (All-nil IsPath)
 from_side named o false false is = cc
@@ -79,7 +81,7 @@ from_target named o (Value-F.Text text) is =
     subst (λ (x : Operator). All IsPath (other_path x)) same (All-cons IsPath s.0 [] (path_is_path named text s.0 s.1) (All-nil IsPath))
 from_target named o other is = cc
 
-operator_paths : (kind : Kind) (named : List ℕ) (r : Result Value ValueFault) (o : Operator) → operator_with kind named r ≡ Ok o → All IsPath (other_path o)
+operator_paths : (kind : Kind) (named : List ℕ) (r : Walked ValueFaultKind Value) (o : Operator) → operator_with kind named r ≡ Ok o → All IsPath (other_path o)
 operator_paths ToAddToSet named r o is = from_value AddToSet r o (λ v. refl) is
 operator_paths ToInc named r o is = from_kind named (with_number named Inc) r o (from_number named Inc o (λ n. refl)) is
 operator_paths ToMax named r o is = from_value Max r o (λ v. refl) is
@@ -96,13 +98,13 @@ action_of p o = Ok (record { path = p; operator = o })
 
 action_paths : (kind : Kind) (text : List ℕ) (d : Data) (a : Action) → action_in kind text d ≡ Ok a → HasPaths a
 action_paths kind text d a is =
-    let read = at_step (to_name text) (operator_with kind text (value_of d)) in
+    let read = at_step (to_name text) (operator_with kind text (walked_value d)) in
     let s = Ok-and_then (λ (p : Path). and_then (action_of p) read) (path_of text text) a is in
     let t = Ok-and_then (action_of s.0) read a s.2 in
     let whole : Action = record { path = s.0; operator = t.0 } in
     let same : whole ≡ a = cc in
     subst HasPaths same (All-cons IsPath s.0 (other_path t.0) (path_is_path text text s.0 s.1)
-    (operator_paths kind text (value_of d) t.0 (Ok-in_err (under (to_name text)) (operator_with kind text (value_of d)) t.0 t.1)))
+    (operator_paths kind text (walked_value d) t.0 (Ok-in_err (under (to_name text)) (operator_with kind text (walked_value d)) t.0 t.1)))
 
 actions_paths : (kind : Kind) (ds : Members) (all : List Action) → actions_in kind ds ≡ Ok all → IsUpdate all
 actions_paths kind no_members all is = let same : ◌≡◌ {A = List Action} [] all = cc in subst IsUpdate same (All-nil HasPaths)
@@ -136,7 +138,7 @@ apart_paths actions all None is = cc
 apart_paths actions all (Some p) is = cc
 
 -- what is read is an update
-pub update_has_paths : (d : Data) (all : List Action) → update_of d ≡ Ok all → IsUpdate all
+pub update_has_paths : (d : Data) (all : List Action) → walked_update d ≡ Ok all → IsUpdate all
 update_has_paths (object no_members) all is = cc
 update_has_paths (object (member name d ds)) all is =
     let s = Ok-and_then without_conflict (operators_in (member name d ds)) all is in

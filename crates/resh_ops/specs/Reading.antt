@@ -6,14 +6,20 @@ use Rattle.serde_json.specs.Data.{Data, null, boolean, number, string, array, ob
 use Rattle.resh_value.specs.Names.{same_name}
 use Rattle.resh_value.specs.Outcome.{and_then, in_err}
 use Rattle.resh_value.specs.Paths.{to_name}
-use Rattle.resh_value.specs.FromJson.{value_of, is_dollar_name, under as value_under}
-use Rattle.resh_value.specs.declared.fault.ValueFault.{ValueFault}
+use Rattle.resh_value.specs.FromJson.{walked_value, is_dollar_name, fault_at as value_fault_at, under as value_under}
+use Rattle.resh_value.specs.Limits.{dot}
+use Rattle.resh_value.specs.Walk.{Walked, as_kind, at_step as walked_at, ends}
+use Rattle.resh_value.specs.declared.fault.ValueFaultKind.{ValueFaultKind}
 use Rattle.resh_value.specs.declared.value.Value.{Value, out-Value}
 use Rattle.resh_value.specs.declared.value.Value.TheOpen.{Value-F}
+use Rattle.resh_value.specs.declared.walk_fault.WalkFault.{WalkFault}
+use Rattle.resh_value.specs.declared.walk_fault.WalkFault.TheVariants.{At, NoMemory as NoRoom}
 use Rattle.resh_ops.specs.Paths.{Path, dotted, is_related}
 use Rattle.resh_ops.specs.Updates.{paths_of}
 use Rattle.resh_ops.specs.declared.faults.UpdateFault.{UpdateFault}
 use Rattle.resh_ops.specs.declared.faults.UpdateFault.TheVariants.{UnknownOperator, Conflict, IdPath, BadOperand, Value as InValue, NoMemory}
+use Rattle.resh_ops.specs.declared.faults.UpdateFaultKind.{UpdateFaultKind}
+use Rattle.resh_ops.specs.declared.faults.UpdateFaultKind.TheVariants as unread
 use Rattle.resh_ops.specs.declared.kind.Kind.{Kind}
 use Rattle.resh_ops.specs.declared.kind.Kind.TheVariants.{AddToSet as ToAddToSet, Inc as ToInc, Max as ToMax, Min as ToMin, Mul as ToMul, Pop as ToPop, Push as ToPush, Rename as ToRename, Set as ToSet, Unset as ToUnset}
 use Rattle.resh_ops.specs.declared.operator.Action.{Action}
@@ -22,23 +28,11 @@ use Rattle.resh_ops.specs.declared.operator.Operator.TheVariants.{AddToSet, Inc,
 use Rattle.resh_ops.specs.declared.operator.Side.TheVariants.{First, Last}
 
 abbrev pub Read : Type 0 → Type 0
-Read A = Result A UpdateFault
-
--- a fault inside, as it is seen from the path's beginning; only a value's fault has a place in the JSON value
-abbrev pub under : List ℕ → UpdateFault → UpdateFault
-under step (InValue fault) = InValue (value_under step fault)
-under step (UnknownOperator name) = UnknownOperator name
-under step (Conflict path) = Conflict path
-under step IdPath = IdPath
-under step (BadOperand path) = BadOperand path
-under step NoMemory = NoMemory
-
-abbrev pub at_step : {A : Type 0} → List ℕ → Read A → Read A
-at_step step r = in_err (under step) r
+Read A = Walked UpdateFaultKind A
 
 -- a path's text is names joined by dots, none empty and none beginning with `$`
 abbrev pub names_in : List ℕ → Path
-names_in text = slice_split (λ b. b == 46) text
+names_in text = slice_split (λ b. b == dot) text
 
 abbrev pub is_step : List ℕ → Bool
 is_step name = nat_lt 0 (length name) && not (is_dollar_name name)
@@ -49,7 +43,7 @@ begins_with_id (name ∷ rest) = same_name name (codes "_id")
 
 -- the path with these names, where `named` is the path that a bad one is reported with
 abbrev pub path_with : List ℕ → Path → Read Path
-path_with named names = cond (list_all is_step names) (cond (begins_with_id names) (Err IdPath) (Ok names)) (Err (BadOperand named))
+path_with named names = cond (list_all is_step names) (cond (begins_with_id names) (ends unread.IdPath) (Ok names)) (ends (unread.BadOperand named))
 
 -- the path of a text
 abbrev pub path_of : List ℕ → List ℕ → Read Path
@@ -70,28 +64,28 @@ kind_of name =
     (cond (same_name name (codes "$unset")) (Some ToUnset) None)))))))))
 
 -- any value is an operand; its fault is the update's
-abbrev pub with_value : (Value → Operator) → Result Value ValueFault → Read Operator
-with_value operator read = and_then (λ value. Ok (operator value)) (in_err InValue read)
+abbrev pub with_value : (Value → Operator) → Walked ValueFaultKind Value → Read Operator
+with_value operator read = and_then (λ value. Ok (operator value)) (in_err (as_kind unread.Value) read)
 
 -- an operand of one kind; any other, also one that is no value, is bad
-abbrev pub of_kind : List ℕ → (Value-F Value → Read Operator) → Result Value ValueFault → Read Operator
+abbrev pub of_kind : List ℕ → (Value-F Value → Read Operator) → Walked ValueFaultKind Value → Read Operator
 of_kind path f (Ok value) = f (out-Value value)
-of_kind path f (Err fault) = Err (BadOperand path)
+of_kind path f (Err fault) = ends (unread.BadOperand path)
 
 abbrev pub with_number : List ℕ → (ℤ → Operator) → Value-F Value → Read Operator
 with_number path operator (Value-F.Int n) = Ok (operator n)
-with_number path operator other = Err (BadOperand path)
+with_number path operator other = ends (unread.BadOperand path)
 
 -- 1 is the last element, and -1 the first
 abbrev pub with_side : List ℕ → Value-F Value → Read Operator
-with_side path (Value-F.Int n) = cond (int_eq n (pos 1)) (Ok (Pop Last)) (cond (int_eq n (neg_ℤ (pos 1))) (Ok (Pop First)) (Err (BadOperand path)))
-with_side path other = Err (BadOperand path)
+with_side path (Value-F.Int n) = cond (int_eq n (pos 1)) (Ok (Pop Last)) (cond (int_eq n (neg_ℤ (pos 1))) (Ok (Pop First)) (ends (unread.BadOperand path)))
+with_side path other = ends (unread.BadOperand path)
 
 abbrev pub with_target : List ℕ → Value-F Value → Read Operator
 with_target path (Value-F.Text text) = and_then (λ target. Ok (Rename target)) (path_of path text)
-with_target path other = Err (BadOperand path)
+with_target path other = ends (unread.BadOperand path)
 
-abbrev pub operator_with : Kind → List ℕ → Result Value ValueFault → Read Operator
+abbrev pub operator_with : Kind → List ℕ → Walked ValueFaultKind Value → Read Operator
 operator_with ToAddToSet path read = with_value AddToSet read
 operator_with ToInc path read = of_kind path (with_number path Inc) read
 operator_with ToMax path read = with_value Max read
@@ -107,7 +101,7 @@ operator_with ToUnset path read = with_value (λ value. Unset) read
 abbrev pub action_in : Kind → List ℕ → Data → Read Action
 action_in kind text d =
     and_then (λ path. and_then (λ operator. Ok (record { path = path; operator = operator }))
-    (at_step (to_name text) (operator_with kind text (value_of d))))
+    (walked_at (to_name text) (operator_with kind text (walked_value d))))
     (path_of text text)
 
 -- an operator at each of its paths
@@ -116,13 +110,13 @@ actions_in kind no_members = Ok []
 actions_in kind (member text d ds) = and_then (λ action. and_then (λ actions. Ok (action ∷ actions)) (actions_in kind ds)) (action_in kind text d)
 
 abbrev pub operator_in : List ℕ → Option Kind → Data → Read (List Action)
-operator_in name None d = Err (UnknownOperator name)
-operator_in name (Some kind) (object ds) = at_step (to_name name) (actions_in kind ds)
-operator_in name (Some kind) null = Err (BadOperand name)
-operator_in name (Some kind) (boolean b) = Err (BadOperand name)
-operator_in name (Some kind) (number n) = Err (BadOperand name)
-operator_in name (Some kind) (string text) = Err (BadOperand name)
-operator_in name (Some kind) (array items) = Err (BadOperand name)
+operator_in name None d = ends (unread.UnknownOperator name)
+operator_in name (Some kind) (object ds) = walked_at (to_name name) (actions_in kind ds)
+operator_in name (Some kind) null = ends (unread.BadOperand name)
+operator_in name (Some kind) (boolean b) = ends (unread.BadOperand name)
+operator_in name (Some kind) (number n) = ends (unread.BadOperand name)
+operator_in name (Some kind) (string text) = ends (unread.BadOperand name)
+operator_in name (Some kind) (array items) = ends (unread.BadOperand name)
 
 -- all operators with their paths, in the order of their names
 abbrev pub operators_in : Members → Read (List Action)
@@ -136,17 +130,44 @@ first_conflict before (path ∷ paths) = cond (list_any (is_related path) before
 
 abbrev pub apart_only : List Action → Option Path → Read (List Action)
 apart_only actions None = Ok actions
-apart_only actions (Some path) = Err (Conflict (dotted path))
+apart_only actions (Some path) = ends (unread.Conflict (dotted path))
 
 abbrev pub without_conflict : List Action → Read (List Action)
 without_conflict actions = apart_only actions (first_conflict [] (flat_map paths_of actions))
 
 -- the update of a JSON value
-abbrev pub update_of : Data → Read (List Action)
-update_of (object no_members) = Err (BadOperand [])
-update_of (object (member name d ds)) = and_then without_conflict (operators_in (member name d ds))
-update_of null = Err (BadOperand [])
-update_of (boolean b) = Err (BadOperand [])
-update_of (number n) = Err (BadOperand [])
-update_of (string text) = Err (BadOperand [])
-update_of (array items) = Err (BadOperand [])
+abbrev pub walked_update : Data → Read (List Action)
+walked_update (object no_members) = ends (unread.BadOperand [])
+walked_update (object (member name d ds)) = and_then without_conflict (operators_in (member name d ds))
+walked_update null = ends (unread.BadOperand [])
+walked_update (boolean b) = ends (unread.BadOperand [])
+walked_update (number n) = ends (unread.BadOperand [])
+walked_update (string text) = ends (unread.BadOperand [])
+walked_update (array items) = ends (unread.BadOperand [])
+
+-- the fault that is answered: only that of a value tells its place in the JSON value
+abbrev pub fault_at : UpdateFaultKind → List ℕ → UpdateFault
+fault_at (unread.UnknownOperator name) place = UnknownOperator name
+fault_at (unread.Conflict path) place = Conflict path
+fault_at unread.IdPath place = IdPath
+fault_at (unread.BadOperand path) place = BadOperand path
+fault_at (unread.Value found) place = InValue (value_fault_at found place)
+
+abbrev pub fault_of : WalkFault UpdateFaultKind → UpdateFault
+fault_of (At place found) = fault_at found place
+fault_of NoRoom = NoMemory
+
+abbrev pub update_of : Data → Result (List Action) UpdateFault
+update_of d = in_err fault_of (walked_update d)
+
+-- a fault that is answered, as it is seen from the path's beginning
+abbrev pub under : List ℕ → UpdateFault → UpdateFault
+under step (InValue fault) = InValue (value_under step fault)
+under step (UnknownOperator name) = UnknownOperator name
+under step (Conflict path) = Conflict path
+under step IdPath = IdPath
+under step (BadOperand path) = BadOperand path
+under step NoMemory = NoMemory
+
+abbrev pub at_step : {A : Type 0} → List ℕ → Result A UpdateFault → Result A UpdateFault
+at_step step r = in_err (under step) r

@@ -9,10 +9,11 @@ ghost use Rattle.resh_ops.specs.Paths.{dotted, is_related};
 ghost use Rattle.resh_ops.specs.Reading.{first_conflict, without_conflict};
 ghost use Rattle.resh_ops.specs.Updates.{paths_of};
 
-use crate::faults::UpdateFault;
+use crate::faults::UpdateFaultKind;
 use crate::operator::{Action, Operator};
 use crate::path::dotted;
-use resh_value::{Names, NoMemory, Sequence, Words};
+use crate::read_faults::Fault;
+use resh_value::{Names, NoMemory, Sequence, WalkFault, Words};
 use std::alloc::Global;
 use std::collections::BTreeSet;
 
@@ -20,13 +21,13 @@ use std::collections::BTreeSet;
 pub(crate) fn without_conflict(
     alloc: Global,
     actions: Sequence<Action>,
-) -> Result<Sequence<Action>, UpdateFault>
-    ensures { Gives UpdateFault.NoMemory result (without_conflict actions) }
+) -> Result<Sequence<Action>, Fault>
+    ensures { Gives WalkFault.NoMemory result (without_conflict actions) }
 {
     match conflict_in(alloc, actions.as_slice()) {
         Ok(None) => Ok(actions),
-        Ok(Some(path)) => Err(UpdateFault::Conflict { path }),
-        Err(NoMemory) => Err(UpdateFault::NoMemory),
+        Ok(Some(path)) => Err(WalkFault::here(alloc, UpdateFaultKind::Conflict { path })),
+        Err(NoMemory) => Err(WalkFault::NoMemory),
     }
 }
 

@@ -1,7 +1,17 @@
 ghost use Rattle.std.specs.Prelude.{◌≡◌, IfOk};
+ghost use Rattle.resh_ops.specs.Reading.{fault_at, fault_of};
 
-use resh_value::{NoMemory, ValueFault, Words};
-use std::alloc::{AllocError, AllocFailed};
+use resh_value::{NoMemory, ValueFault, ValueFaultKind, WalkFault, Words};
+
+/// What makes a JSON value no update, as `UpdateFault`.
+#[derive(Debug, Drop)]
+pub enum UpdateFaultKind {
+    UnknownOperator { name: Words },
+    Conflict { path: Words },
+    IdPath,
+    BadOperand { path: Words },
+    Value(ValueFaultKind),
+}
 
 /// Why a JSON value is no update. A path is that of a field in the update, its names joined by dots.
 #[derive(Debug, Drop)]
@@ -31,25 +41,29 @@ impl From<NoMemory> for UpdateFault {
     }
 }
 
-impl From<AllocError> for UpdateFault {
-    ghost use Rattle.std.specs.Prelude.{◌≡◌};
-    ghost use Rattle.resh_ops.specs.declared.faults.UpdateFault.TheVariants.{NoMemory};
-
-    ghost from_gives = { λ e f. f ≡ NoMemory };
-
-    fn from(_: AllocError) -> UpdateFault {
-        UpdateFault::NoMemory
+impl UpdateFault {
+    /// What a walk ended with, as it is answered: only the fault of a value tells its place in the JSON value.
+    pub fn of(fault: WalkFault<UpdateFaultKind>) -> UpdateFault
+        ensures { result ≡ fault_of fault }
+    {
+        match fault {
+            WalkFault::At { path, kind } => UpdateFault::at(path, kind),
+            WalkFault::NoMemory => UpdateFault::NoMemory,
+        }
     }
-}
 
-impl<T: Drop> From<AllocFailed<T>> for UpdateFault {
-    ghost use Rattle.std.specs.Prelude.{◌≡◌};
-    ghost use Rattle.resh_ops.specs.declared.faults.UpdateFault.TheVariants.{NoMemory};
-
-    ghost from_gives = { λ e f. f ≡ NoMemory };
-
-    fn from(_: AllocFailed<T>) -> UpdateFault {
-        UpdateFault::NoMemory
+    fn at(place: Words, kind: UpdateFaultKind) -> UpdateFault
+        ensures { result ≡ fault_at kind place }
+    {
+        match kind {
+            UpdateFaultKind::UnknownOperator { name } => UpdateFault::UnknownOperator { name },
+            UpdateFaultKind::Conflict { path } => UpdateFault::Conflict { path },
+            UpdateFaultKind::IdPath => UpdateFault::IdPath,
+            UpdateFaultKind::BadOperand { path } => UpdateFault::BadOperand { path },
+            UpdateFaultKind::Value(kind) => {
+                UpdateFault::Value(ValueFault::of(WalkFault::At { path: place, kind }))
+            }
+        }
     }
 }
 

@@ -20,7 +20,7 @@ mod read_faults;
 mod read_tests;
 mod update;
 
-pub use faults::{ChangeFault, UpdateFault};
+pub use faults::{ChangeFault, UpdateFault, UpdateFaultKind};
 pub use laws::{action_laws, empty_change_law, id_laws, number_laws};
 pub use operator::{Action, Operator, Side};
 pub use update::Update;

@@ -2,17 +2,16 @@
 
 ghost use Rattle.std.specs.Prelude.{◌≡◌, ◌≢◌, Ok, Err};
 ghost use Rattle.serde_json.specs.View.{view};
-ghost use Rattle.resh_value.specs.FromJson.{value_of};
+ghost use Rattle.resh_value.specs.FromJson.{walked_value};
 ghost use Rattle.resh_value.specs.Outcome.{Gives};
 ghost use Rattle.resh_value.specs.declared.value.Value.TheOpen.{Value-F};
 ghost use Rattle.resh_ops.specs.Reading.{operator_with, with_side, with_target};
 
-use crate::faults::UpdateFault;
 use crate::kind::Kind;
 use crate::operator::{Operator, Side};
 use crate::path_text::path_of;
-use crate::read_faults::{bad_operand, no_path};
-use resh_value::{Value, ValueFault};
+use crate::read_faults::{Fault, bad_operand, in_value};
+use resh_value::{Value, ValueFaultKind, WalkFault};
 use serde_json::Value as Json;
 use std::alloc::Global;
 
@@ -22,38 +21,33 @@ pub(crate) fn operator_in(
     kind: Kind,
     path: &str,
     json: &Json,
-) -> Result<Operator, UpdateFault>
-    ensures { Gives UpdateFault.NoMemory result (operator_with kind path.now (value_of (view json.now))) }
+) -> Result<Operator, Fault>
+    ensures { Gives WalkFault.NoMemory result (operator_with kind path.now (walked_value (view json.now))) }
 {
-    match Value::from_json(alloc, json, &no_path(alloc)) {
+    match Value::walk(alloc, json) {
         Ok(value) => operator_with(alloc, kind, path, value),
         Err(fault) => Err(operand_fault(alloc, kind, path, fault)),
     }
 }
 
 /// The fault of an operand that is no value.
-fn operand_fault(alloc: Global, kind: Kind, path: &str, fault: ValueFault) -> UpdateFault
-    ensures memory { fault ≡ ValueFault.NoMemory → result ≡ UpdateFault.NoMemory }
-    ensures fault { result ≢ UpdateFault.NoMemory → operator_with kind path.now (Err fault) ≡ Err result }
+fn operand_fault(alloc: Global, kind: Kind, path: &str, fault: WalkFault<ValueFaultKind>) -> Fault
+    ensures memory { fault ≡ WalkFault.NoMemory → result ≡ WalkFault.NoMemory }
+    ensures fault { result ≢ WalkFault.NoMemory → operator_with kind path.now (Err fault) ≡ Err result }
 {
-    if let ValueFault::NoMemory = fault {
-        return UpdateFault::NoMemory;
+    if let WalkFault::NoMemory = fault {
+        return WalkFault::NoMemory;
     }
     match kind {
         Kind::Inc | Kind::Mul | Kind::Pop | Kind::Rename => bad_operand(alloc, path),
         Kind::AddToSet | Kind::Max | Kind::Min | Kind::Push | Kind::Set | Kind::Unset => {
-            UpdateFault::Value(fault)
+            in_value(fault)
         }
     }
 }
 
-fn operator_with(
-    alloc: Global,
-    kind: Kind,
-    path: &str,
-    value: Value,
-) -> Result<Operator, UpdateFault>
-    ensures { Gives UpdateFault.NoMemory result (operator_with kind path.now (Ok value)) }
+fn operator_with(alloc: Global, kind: Kind, path: &str, value: Value) -> Result<Operator, Fault>
+    ensures { Gives WalkFault.NoMemory result (operator_with kind path.now (Ok value)) }
 {
     match kind {
         Kind::AddToSet => Ok(Operator::AddToSet(value)),
@@ -82,8 +76,8 @@ fn operator_with(
 }
 
 /// 1 is the last element, and -1 the first.
-fn pop(alloc: Global, path: &str, end: i64) -> Result<Operator, UpdateFault>
-    ensures { Gives UpdateFault.NoMemory result (with_side path.now (Value-F.Int end)) }
+fn pop(alloc: Global, path: &str, end: i64) -> Result<Operator, Fault>
+    ensures { Gives WalkFault.NoMemory result (with_side path.now (Value-F.Int end)) }
 {
     match end {
         1 => Ok(Operator::Pop(Side::Last)),
@@ -92,8 +86,8 @@ fn pop(alloc: Global, path: &str, end: i64) -> Result<Operator, UpdateFault>
     }
 }
 
-fn rename(alloc: Global, path: &str, target: &str) -> Result<Operator, UpdateFault>
-    ensures { Gives UpdateFault.NoMemory result (with_target path.now (Value-F.Text target.now)) }
+fn rename(alloc: Global, path: &str, target: &str) -> Result<Operator, Fault>
+    ensures { Gives WalkFault.NoMemory result (with_target path.now (Value-F.Text target.now)) }
 {
     match path_of(alloc, path, target) {
         Ok(target) => Ok(Operator::Rename(target)),

@@ -6,18 +6,18 @@ ghost use Rattle.resh_value.specs.Names.{same_name};
 ghost use Rattle.resh_value.specs.Outcome.{Gives};
 ghost use Rattle.resh_ops.specs.Reading.{names_in, is_step, begins_with_id, path_with, path_of};
 
-use crate::faults::UpdateFault;
-use crate::read_faults::bad_operand;
-use resh_value::{Names, NoMemory, Sequence, Words};
+use crate::faults::UpdateFaultKind;
+use crate::read_faults::{Fault, bad_operand};
+use resh_value::{DOLLAR, Names, NoMemory, Sequence, WalkFault, Words};
 use std::alloc::{AllocError, Global};
 
 /// The path of a text. A bad one is reported with the path `named`.
-pub(crate) fn path_of(alloc: Global, named: &str, text: &str) -> Result<Names, UpdateFault>
-    ensures { Gives UpdateFault.NoMemory result (path_of named.now text.now) }
+pub(crate) fn path_of(alloc: Global, named: &str, text: &str) -> Result<Names, Fault>
+    ensures { Gives WalkFault.NoMemory result (path_of named.now text.now) }
 {
     match names_in(alloc, text) {
         Ok(names) => path_with(alloc, named, names.as_slice()),
-        Err(AllocError) => Err(UpdateFault::NoMemory),
+        Err(AllocError) => Err(WalkFault::NoMemory),
     }
 }
 
@@ -27,14 +27,14 @@ fn names_in(alloc: Global, text: &str) -> Result<Vec<&str>, AllocError>
     text.split('.').collect(alloc)
 }
 
-fn path_with(alloc: Global, named: &str, names: &[&str]) -> Result<Names, UpdateFault>
-    ensures { Gives UpdateFault.NoMemory result (path_with named.now (map (λ n. n.now) names.now)) }
+fn path_with(alloc: Global, named: &str, names: &[&str]) -> Result<Names, Fault>
+    ensures { Gives WalkFault.NoMemory result (path_with named.now (map (λ n. n.now) names.now)) }
 {
     if !has_steps_alone(names) {
         return Err(bad_operand(alloc, named));
     }
     if begins_with_id(names) {
-        return Err(UpdateFault::IdPath);
+        return Err(WalkFault::here(alloc, UpdateFaultKind::IdPath));
     }
     Ok(owned(alloc, names)?)
 }
@@ -49,7 +49,7 @@ fn is_step(name: &str) -> bool
     ensures { result ≡ is_step name.now }
 {
     let bytes = name.as_bytes();
-    !bytes.is_empty() && bytes[0] != b'$'
+    !bytes.is_empty() && bytes[0] != DOLLAR
 }
 
 fn begins_with_id(names: &[&str]) -> bool

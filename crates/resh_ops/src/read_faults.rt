@@ -1,63 +1,51 @@
-//! Faults of an update that is read, and how they are seen from further out.
+//! Faults of an update that is read, and how they are answered.
 
 ghost use Rattle.std.specs.Prelude.{◌≡◌, ◌≢◌, []};
-ghost use Rattle.resh_value.specs.Paths.{to_name};
-ghost use Rattle.resh_ops.specs.Reading.{under};
+ghost use Rattle.resh_value.specs.Walk.{as_kind};
+ghost use Rattle.resh_ops.specs.Reading.{fault_of, under};
 
-use crate::faults::UpdateFault;
-use resh_value::{NoMemory, ValueFault, Words, path_to_name};
+use crate::faults::{UpdateFault, UpdateFaultKind};
+use resh_value::{NoMemory, ValueFaultKind, WalkFault, Words};
 use std::alloc::Global;
 
-/// The path to the place itself.
-pub(crate) fn no_path(alloc: Global) -> Words
-    ensures { result ≡ [] }
-{
-    Words::from_string(String::new(alloc))
-}
+pub(crate) type Fault = WalkFault<UpdateFaultKind>;
 
-pub(crate) fn bad_operand(alloc: Global, path: &str) -> UpdateFault
-    ensures { result ≢ UpdateFault.NoMemory → result ≡ UpdateFault.BadOperand path.now }
+pub(crate) fn bad_operand(alloc: Global, path: &str) -> Fault
+    ensures { result ≢ WalkFault.NoMemory → result ≡ WalkFault.At [] (UpdateFaultKind.BadOperand path.now) }
 {
     match Words::of(alloc, path) {
-        Ok(path) => UpdateFault::BadOperand { path },
-        Err(NoMemory) => UpdateFault::NoMemory,
+        Ok(path) => WalkFault::here(alloc, UpdateFaultKind::BadOperand { path }),
+        Err(NoMemory) => WalkFault::NoMemory,
     }
 }
 
-pub(crate) fn unknown_operator(alloc: Global, name: &str) -> UpdateFault
-    ensures { result ≢ UpdateFault.NoMemory → result ≡ UpdateFault.UnknownOperator name.now }
+pub(crate) fn unknown_operator(alloc: Global, name: &str) -> Fault
+    ensures { result ≢ WalkFault.NoMemory → result ≡ WalkFault.At [] (UpdateFaultKind.UnknownOperator name.now) }
 {
     match Words::of(alloc, name) {
-        Ok(name) => UpdateFault::UnknownOperator { name },
-        Err(NoMemory) => UpdateFault::NoMemory,
+        Ok(name) => WalkFault::here(alloc, UpdateFaultKind::UnknownOperator { name }),
+        Err(NoMemory) => WalkFault::NoMemory,
     }
 }
 
-/// The fault of an object's member, as it is seen from the object.
-pub(crate) fn under_name(alloc: Global, name: &str, fault: UpdateFault) -> UpdateFault
-    ensures { result ≢ UpdateFault.NoMemory → result ≡ under (to_name name.now) fault }
-{
-    match path_to_name(alloc, &no_path(alloc), name) {
-        Ok(step) => under(alloc, &step, fault),
-        Err(NoMemory) => UpdateFault::NoMemory,
-    }
-}
-
-/// The fault as it is seen from further out, with `step` before the path to a value.
-pub(crate) fn under(alloc: Global, step: &Words, fault: UpdateFault) -> UpdateFault
-    ensures { result ≢ UpdateFault.NoMemory → result ≡ under step.now fault }
+/// The fault of a value, as an update's.
+pub(crate) fn in_value(fault: WalkFault<ValueFaultKind>) -> Fault
+    ensures { result ≡ as_kind UpdateFaultKind.Value fault }
 {
     match fault {
-        UpdateFault::Value(fault) => value_under(alloc, step, fault),
-        fault => fault,
+        WalkFault::At { path, kind } => WalkFault::At {
+            path,
+            kind: UpdateFaultKind::Value(kind),
+        },
+        WalkFault::NoMemory => WalkFault::NoMemory,
     }
 }
 
-fn value_under(alloc: Global, step: &Words, fault: ValueFault) -> UpdateFault
-    ensures { result ≢ UpdateFault.NoMemory → result ≡ under step.now (UpdateFault.Value fault) }
+/// The fault as it is answered, seen from the beginning of `path`.
+#[tactic(auto, using(crate::proofs::Answered::answered_under))]
+pub(crate) fn answered_under(alloc: Global, path: &Words, fault: Fault) -> UpdateFault
+    ensures fault { result ≢ UpdateFault.NoMemory → result ≡ under path.now (fault_of fault) }
+    ensures memory { fault ≡ WalkFault.NoMemory → result ≡ UpdateFault.NoMemory }
 {
-    match fault.under(alloc, step) {
-        ValueFault::NoMemory => UpdateFault::NoMemory,
-        fault => UpdateFault::Value(fault),
-    }
+    UpdateFault::of(fault.under(alloc, path))
 }
