@@ -1,5 +1,5 @@
 -- Which contents are whole, in the words of documents and changes.
-use Rattle.std.proofs.Common.{◌≡◌, ◌↔◌, ◌⊎◌, inl, inr, Bool, true, false, ◌&&◌, refl}
+use Rattle.std.proofs.Common.{◌≡◌, ◌⊎◌, inl, inr, Bool, true, false, ◌&&◌, refl}
 use Rattle.resh_value.specs.Lookup.{has_id}
 use Rattle.resh_value.specs.Whole.{has_rising_names}
 use Rattle.resh_value.proofs.WholeLaws.{rising_decides, whole_decides}

@@ -1,11 +1,11 @@
 -- What is read past the last mark of a time is of a later time.
-use Rattle.std.proofs.Common.{◌≡◌, ℕ, cond, ◌&&◌, nat_lt, List, [], ◌∷◌, Some, refl, ap, ◌∙◌}
+use Rattle.std.proofs.Common.{cond, ◌&&◌, nat_lt, [], ◌∷◌, Some, refl, ap, ◌∙◌}
 use Rattle.std.proofs.lemmas.List.Elements.{All-head, All-tail}
 use Rattle.resh_stamp.specs.Laws.{IsMark}
 use Rattle.resh_stamp.specs.Times.{last_mark_of}
 use Rattle.resh_stamp.proofs.Orders.{times_end}
 use Rattle.resh_oplog.specs.Laws.{ReadsLater}
-use Rattle.resh_oplog.specs.Logs.{AreMarked, entries_after, is_for, later_entries, mark_of}
+use Rattle.resh_oplog.specs.Logs.{entries_after, is_for, mark_of}
 use Rattle.resh_oplog.specs.declared.entry.Entry.{Entry}
 
 pub reads_later : ReadsLater

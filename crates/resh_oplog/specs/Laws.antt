@@ -1,6 +1,5 @@
 -- What holds of logs and of what entries write.
 use Rattle.std.specs.Prelude.{◌≡◌, ◌↔◌, ◌⊎◌, ℕ, true, List, Some, is_some}
-use Rattle.std.specs.List.{All}
 use Rattle.resh_stamp.specs.Times.{last_mark_of}
 use Rattle.resh_value.specs.Names.{HasRisingNames}
 use Rattle.resh_value.specs.Whole.{IsWhole}

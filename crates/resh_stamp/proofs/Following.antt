@@ -1,8 +1,8 @@
 -- An event has a time exactly where each clock is before the end of time.
-use Rattle.std.proofs.Common.{rules, ◌≡◌, ℕ, ◌<◌, ◌≤◌, ◌+◌, ◌↔◌, max, true, nat_lt, List, [], ◌∷◌, arith}
+use Rattle.std.proofs.Common.{rules, ◌≡◌, ℕ, ◌<◌, ◌+◌, max, true, nat_lt, List, [], ◌∷◌, arith}
 use Rattle.std.specs.List.{AllByRecursion}
 use Rattle.resh_stamp.specs.Laws.{HasNext}
-use Rattle.resh_stamp.specs.Times.{end_of_time, has_next, latest}
+use Rattle.resh_stamp.specs.Times.{end_of_time, latest}
 
 abbrev Early : List ℕ → Type 0
 Early others = AllByRecursion (λ time. time + 1 < end_of_time) others

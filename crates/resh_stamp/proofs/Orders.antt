@@ -1,11 +1,11 @@
 -- Stamps and marks are totally ordered, no two are alike, and a time's last mark is below the later ones.
-use Rattle.std.proofs.Common.{rules, ◌≡◌, ℕ, ◌<◌, ◌≤◌, ◌-◌, ◌^◌, true, false, nat_lt, Less, Equal, Greater, refl, sym, ap, ◌∙◌, subst, arith, ⊎_elim}
+use Rattle.std.proofs.Common.{rules, ◌≡◌, ℕ, ◌<◌, ◌≤◌, ◌-◌, ◌^◌, true, false, nat_lt, Less, Equal, Greater, refl, sym, ap, ◌∙◌, arith, ⊎_elim}
 use Rattle.std.proofs.lemmas.Bool.{cases_lt}
 use Rattle.std.specs.Cmp.{IsTotalOrder, nat_cmp_is, on_total, then_total, nat_cmp_total}
 use Rattle.std.specs.Ordering.{is_lt, nat_cmp, ordering_then}
 use Rattle.std.specs.declared.cmp.Ordering.{Ordering}
-use Rattle.resh_stamp.specs.Laws.{IsMark, IsStrictOrder, TimesEnd}
-use Rattle.resh_stamp.specs.Times.{last_mark_of, mark_cmp, stamp_cmp}
+use Rattle.resh_stamp.specs.Laws.{IsStrictOrder, TimesEnd}
+use Rattle.resh_stamp.specs.Times.{mark_cmp, stamp_cmp}
 use Rattle.resh_stamp.specs.declared.stamp.Stamp.{Stamp}
 use Rattle.resh_stamp.specs.declared.stamp.Mark.{Mark}
 

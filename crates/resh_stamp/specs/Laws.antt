@@ -5,7 +5,7 @@ use Rattle.std.specs.List.{AllByRecursion}
 use Rattle.std.specs.Ordering.{is_lt}
 use Rattle.std.specs.declared.cmp.Ordering.{Ordering}
 use Rattle.std.specs.declared.cmp.Ordering.TheVariants.{Equal}
-use Rattle.resh_stamp.specs.Times.{end_of_time, has_next, last_mark_of, mark_cmp, stamp_cmp}
+use Rattle.resh_stamp.specs.Times.{end_of_time, has_next, last_mark_of, mark_cmp}
 use Rattle.resh_stamp.specs.declared.stamp.Mark.{Mark}
 
 -- an order in which no two are alike

@@ -1,5 +1,5 @@
 -- What one more version changes, and what it leaves.
-use Rattle.std.proofs.Common.{◌≡◌, ◌≢◌, ℕ, ◌≤◌, ◌<◌, max, Bool, true, false, cond, [], ◌∷◌, ◌++◌, filter, Option, Some, None, unwrap_or, refl, ap, sym, ◌∙◌, subst}
+use Rattle.std.proofs.Common.{◌≡◌, ◌≢◌, ℕ, ◌≤◌, ◌<◌, max, Bool, true, false, cond, [], ◌∷◌, ◌++◌, filter, Option, Some, None, is_some, unwrap_or, refl, ap, sym, ◌∙◌, subst}
 use Rattle.std.proofs.lemmas.Bool.{le-leb}
 use Rattle.std.proofs.lemmas.Map.Views.{tells_apart}
 use Rattle.std.specs.Cmp.{eq_by_cmp_equiv}
@@ -9,9 +9,9 @@ use Rattle.std.specs.Ordering.{eq_by_cmp}
 use Rattle.resh_value.specs.Order.{compare_of}
 use Rattle.resh_value.specs.OrderLaws.{compare_total, compare_same}
 use Rattle.resh_value.specs.declared.value.Value.{Value}
-use Rattle.resh_versions.specs.Chains.{Chain, newest, is_by, chain_at, without_newest}
-use Rattle.resh_versions.specs.Laws.{AddsVersion, TakesBack, ReadsNow, StartsEmpty, KeepsFiled}
-use Rattle.resh_versions.specs.Standing.{Chains, IsChainOf, IsFiled, chain_in, chain_of, pushed, popped, with_chain}
+use Rattle.resh_versions.specs.Chains.{Chain, Document, newest, is_by, chain_at, version, without_newest}
+use Rattle.resh_versions.specs.Laws.{AddsVersion, TakesBack, ReadsNow, RemovesOne, StartsEmpty, KeepsFiled}
+use Rattle.resh_versions.specs.Standing.{Chains, IsChainOf, IsFiled, IsUpTo, VersionsOf, at, chain_in, chain_of, now, pushed, popped, with_chain, with_removal}
 use Rattle.resh_versions.specs.declared.version.Version.{Version}
 use Rattle.resh_versions.proofs.ChainLaws.{newest_pushed, chain_at_pushed, without_newest_pushed, is_later}
 use Rattle.resh_versions.proofs.Filing.{same_chains, are_after, turned, longer, chain_stands}
@@ -120,3 +120,56 @@ keeps_filed = record {
   where
     not_some : (chain : Chain) → None ≡ Some chain → ⊥
     not_some chain e = cc
+
+-- a removal is a version that is nothing, or no change
+module _ (s : VersionsOf) (removed : ℕ) (id : Value) where
+  abbrev removal : Bool → VersionsOf
+  removal stood = record s { chains = cond stood (pushed s.chains id (version removed None)) s.chains }
+
+  removed_there : now (with_removal s removed id) id ≡ None
+  removed_there = by (is_some (now s id)) refl
+    where
+      none : (d : Option Document) → is_some d ≡ false → d ≡ None
+      none None e = refl
+      none (Some d) e = cc
+
+      by : (b : Bool) → is_some (now s id) ≡ b → now (removal b) id ≡ None
+      by true e = adds_version.now_there s id (version removed None)
+      by false e = none (now s id) e
+
+  removed_elsewhere : (other : Value) → other ≢ id → now (with_removal s removed id) other ≡ now s other
+  removed_elsewhere other differ = by (is_some (now s id))
+    where
+      by : (b : Bool) → now (removal b) other ≡ now s other
+      by true = adds_version.now_elsewhere s id other (version removed None) differ
+      by false = refl
+
+  removed_before : (time : ℕ) (other : Value) → time < removed → at (with_removal s removed id) time other ≡ at s time other
+  removed_before time other lt = by (is_some (now s id))
+    where
+      by : (b : Bool) → at (removal b) time other ≡ at s time other
+      by true = adds_version.before s id other (version removed None) time lt
+      by false = refl
+
+  removed_up_to : (time : ℕ) → IsUpTo time s → removed ≤ time → IsUpTo time (with_removal s removed id)
+  removed_up_to time all le = by (is_some (now s id))
+    where
+      by : (b : Bool) → IsUpTo time (removal b)
+      by true = adds_version.up_to s id (version removed None) time all le
+      by false = all
+
+  removed_filed : IsFiled s.chains → IsFiled (with_removal s removed id).chains
+  removed_filed are = by (is_some (now s id))
+    where
+      by : (b : Bool) → IsFiled (removal b).chains
+      by true = keeps_filed.added s id (version removed None) are tt
+      by false = are
+
+pub removes_one : RemovesOne
+removes_one = record {
+  now_there = removed_there;
+  now_elsewhere = λ s removed id other differ. removed_elsewhere s removed id other differ;
+  before = λ s removed time id other lt. removed_before s removed id time other lt;
+  up_to = λ s removed time id all le. removed_up_to s removed id time all le;
+  filed = λ s removed id are. removed_filed s removed id are;
+}

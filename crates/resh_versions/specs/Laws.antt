@@ -7,7 +7,7 @@ use Rattle.resh_value.specs.Lookup.{id_of}
 use Rattle.resh_value.specs.Order.{compare_of}
 use Rattle.resh_value.specs.declared.value.Value.{Value}
 use Rattle.resh_versions.specs.Chains.{Document, IsStored}
-use Rattle.resh_versions.specs.Standing.{VersionsOf, IsFiled, IsUpTo, StandsUnder, chain_of, at, now, is_above, last_of, standing, standing_after, standing_now, standing_up_to, stored_from, with_version, without_last, pruned}
+use Rattle.resh_versions.specs.Standing.{VersionsOf, IsFiled, IsUpTo, StandsUnder, chain_of, at, now, is_above, last_of, standing, standing_after, standing_now, standing_up_to, stored_from, with_removal, with_version, without_last, pruned}
 use Rattle.resh_versions.specs.declared.version.Version.{Version}
 
 -- nothing stands where there are no chains
@@ -29,6 +29,18 @@ pub record AddsVersion : Type 0 where
       → at (with_version s id v) time other ≡ at s time other
   pub up_to : (s : VersionsOf) (id : Value) (v : Version) (time : ℕ) → IsUpTo time s → v.time ≤ time
       → IsUpTo time (with_version s id v)
+
+-- a removal leaves nothing under its `_id`, and changes no reading before it and none of another `_id`
+pub record RemovesOne : Type 0 where
+  pub now_there : (s : VersionsOf) (removed : ℕ) (id : Value) → now (with_removal s removed id) id ≡ None
+  pub now_elsewhere : (s : VersionsOf) (removed : ℕ) (id other : Value) → other ≢ id
+      → now (with_removal s removed id) other ≡ now s other
+  pub before : (s : VersionsOf) (removed time : ℕ) (id other : Value) → time < removed
+      → at (with_removal s removed id) time other ≡ at s time other
+  pub up_to : (s : VersionsOf) (removed time : ℕ) (id : Value) → IsUpTo time s → removed ≤ time
+      → IsUpTo time (with_removal s removed id)
+  pub filed : (s : VersionsOf) (removed : ℕ) (id : Value) → IsFiled s.chains
+      → IsFiled (with_removal s removed id).chains
 
 -- a version that is taken back leaves all as it was before it
 abbrev pub TakesBack : Type 0
@@ -76,7 +88,8 @@ pub record StandsNow : Type 0 where
       → Contains (standing_now s after) d
   pub rise : (s : VersionsOf) (after : Option Value) → IsFiled s.chains
       → IsStrictlySortedBy compare_of (map id_of (standing_now s after))
-  pub whole : (s : VersionsOf) (after : Option Value) → IsFiled s.chains → AllByRecursion IsStored (standing_now s after)
+  pub whole : (s : VersionsOf) (after : Option Value) → IsFiled s.chains
+      → AllByRecursion IsStored (standing_now s after)
 
 -- states that are read alike have the same lists; so a later version and a pruning leave the list at a time
 pub record KeepsLists : Type 0 where

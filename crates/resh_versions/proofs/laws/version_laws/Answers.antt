@@ -1,10 +1,13 @@
 use Rattle.resh_versions.proofs.Pruning.{prunes_unseen}
 use Rattle.resh_versions.proofs.Storing.{stores_last}
-use Rattle.resh_versions.proofs.WriteLaws.{adds_version, keeps_filed, reads_now, starts_empty, takes_back}
+use Rattle.resh_versions.proofs.WriteLaws.{adds_version, keeps_filed, reads_now, removes_one, starts_empty, takes_back}
 use Rattle.resh_versions.proofs.laws.version_laws.Goals as goal
 
 pub returns-clause-adds : goal.returns-clause-adds
 returns-clause-adds c = adds_version
+
+pub returns-clause-removes : goal.returns-clause-removes
+returns-clause-removes c = removes_one
 
 pub returns-clause-takes_back : goal.returns-clause-takes_back
 returns-clause-takes_back c = takes_back

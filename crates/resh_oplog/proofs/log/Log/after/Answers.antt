@@ -2,7 +2,7 @@ use Rattle.std.proofs.Common.{rules, tests, ◌≡◌, List, take, filter, sym, 
 use Rattle.std.proofs.lemmas.List.Elements.{All-filter, All-take}
 use Rattle.std.proofs.lemmas.List.Sorted.{IsPartitionPoint-from_clause}
 use Rattle.std.proofs.lemmas.Result.{IfOk-weaker}
-use Rattle.resh_oplog.specs.Logs.{AreWhole, IsRising, LogOf, entries_after, is_above, is_for, is_whole, mark_of}
+use Rattle.resh_oplog.specs.Logs.{AreWhole, IsRising, LogOf, entries_after, is_for, is_whole}
 use Rattle.resh_oplog.specs.declared.entry.Entry.{Entry}
 use Rattle.resh_oplog.proofs.Reading.{is_read, parted, after_point}
 use Rattle.resh_oplog.proofs.log.Log.after.Goals as goal
