@@ -4,6 +4,8 @@
 #[cfg(test)]
 mod donor;
 #[cfg(test)]
+mod luck;
+#[cfg(test)]
 mod progress;
 #[cfg(test)]
 mod recipient;
