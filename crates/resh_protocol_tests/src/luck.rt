@@ -1,7 +1,7 @@
 //! What calls meet by a plan, and without one.
 
 use resh_luck::{CalmLuck, Delivery, Fate, Kind, Luck, PlanFate, PlanRow, PlannedLuck, delivered};
-use resh_value::NoMemory;
+use resh_value::{Copied, NoMemory};
 use std::alloc::Global;
 use std::test::Fail;
 
@@ -16,6 +16,13 @@ const fn row(kind: Kind, first: u32, last: u32, fate: PlanFate) -> PlanRow {
 
 fn planned(alloc: Global, rows: &[PlanRow]) -> Result<PlannedLuck, NoMemory> {
     Ok(PlannedLuck::new(Vec::from_slice(alloc, rows)?))
+}
+
+#[test]
+fn rows_are_copied(rt: HostRuntime) -> Result<(), Fail> {
+    let lost = row(Kind::Deliver, 2, 65, PlanFate::Lost);
+    assert_eq!(rt; lost.copied(rt.alloc())?, lost);
+    Ok(())
 }
 
 #[test]
