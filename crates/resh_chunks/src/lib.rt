@@ -8,8 +8,6 @@ mod laws;
 mod owner;
 mod pattern;
 mod rows;
-#[cfg(test)]
-mod tests;
 
 pub use bound::{Bound, ChunkRow, Key};
 pub use chunk_map::ChunkMap;

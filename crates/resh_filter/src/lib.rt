@@ -4,8 +4,6 @@
 mod fault;
 mod filter;
 mod laws;
-#[cfg(test)]
-mod tests;
 
 pub use fault::{FilterFault, FilterFaultKind};
 pub use filter::Filter;

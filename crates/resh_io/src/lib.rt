@@ -19,5 +19,3 @@ pub use std_sink::StdSink;
 pub use std_source::StdSource;
 pub use writing::{Cut, write_all};
 
-#[cfg(test)]
-mod tests;

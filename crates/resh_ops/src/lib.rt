@@ -2,8 +2,6 @@
 #![tactic(auto)]
 
 mod change;
-#[cfg(test)]
-mod change_tests;
 mod conflicts;
 mod difference;
 mod doing;
@@ -16,11 +14,10 @@ mod path;
 mod path_text;
 mod read;
 mod read_faults;
-#[cfg(test)]
-mod read_tests;
 mod update;
 
 pub use faults::{ChangeFault, UpdateFault, UpdateFaultKind};
 pub use laws::{action_laws, empty_change_law, id_laws, number_laws};
 pub use operator::{Action, Operator, Side};
+pub use path::dotted;
 pub use update::Update;

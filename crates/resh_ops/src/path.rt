@@ -105,7 +105,7 @@ fn embedded_in(alloc: Global, field: Option<Value>) -> Document
 }
 
 /// A path's names, joined by dots.
-pub(crate) fn dotted(alloc: Global, path: &[Words]) -> Result<Words, NoMemory>
+pub fn dotted(alloc: Global, path: &[Words]) -> Result<Words, NoMemory>
     ensures { IfOk result (λ text. text ≡ dotted path.now) }
 {
     match path {

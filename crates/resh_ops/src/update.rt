@@ -44,7 +44,8 @@ impl Update {
         *self.actions.allocator()
     }
 
-    pub(crate) fn actions(&self) -> &[Action]
+    /// The operators at their paths, in the order in which they are taken.
+    pub fn actions(&self) -> &[Action]
         ensures { result.now ≡ self.now }
     {
         self.actions.as_slice()

@@ -58,20 +58,3 @@ impl Value {
         compare(self, other).is_eq()
     }
 }
-
-#[cfg(test)]
-mod tests {
-    use super::*;
-    use crate::words::Words;
-    use std::test::Fail;
-
-    #[test]
-    fn an_id_is_a_field(rt: HostRuntime) -> Result<(), Fail> {
-        let alloc = rt.alloc();
-        let mut document = Fields::new(alloc);
-        assert_eq!(rt; document.id(), None);
-        document.put(Words::of(alloc, "_id")?, Value::Int(7))?;
-        assert_eq!(rt; document.id(), Some(&Value::Int(7)));
-        Ok(())
-    }
-}

@@ -9,14 +9,10 @@ mod fields;
 mod from_json;
 mod hash;
 mod identity;
-#[cfg(test)]
-mod json_tests;
 mod laws;
 mod limits;
 mod memory;
 mod order;
-#[cfg(test)]
-mod order_tests;
 mod pairs;
 mod paths;
 mod places;

@@ -147,27 +147,3 @@ impl<T: Hash> Hash for Sequence<T> {
         self.items.hash(state);
     }
 }
-
-#[cfg(test)]
-mod tests {
-    use super::*;
-    use std::test::Fail;
-
-    #[test]
-    fn grows_and_shrinks_at_its_end(rt: HostRuntime) -> Result<(), Fail> {
-        let mut sequence = Sequence::new(rt.alloc());
-        assert!(rt; sequence.is_empty());
-        assert_eq!(rt; sequence.pop(), None);
-        for item in [4, 5, 6] {
-            assert!(rt; sequence.push(item).is_ok());
-        }
-        for (place, item) in [(0, Some(4)), (2, Some(6)), (3, None), (u64::MAX, None)] {
-            assert_eq!(rt; sequence.get(place).copied(), item, "at {place}");
-        }
-        assert_eq!(rt; sequence.pop(), Some(6));
-        assert_eq!(rt; sequence.len(), 2);
-        let again = Sequence::from_vec(sequence.into_vec());
-        assert_eq!(rt; again.as_slice(), [4, 5].as_slice());
-        Ok(())
-    }
-}

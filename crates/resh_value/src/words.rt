@@ -116,27 +116,3 @@ impl Hash for Words {
         self.text.hash(state);
     }
 }
-
-#[cfg(test)]
-mod tests {
-    use super::*;
-    use std::test::Fail;
-
-    #[test]
-    fn is_a_text(rt: HostRuntime) -> Result<(), Fail> {
-        let cases = [
-            ("", "", true),
-            ("a", "", false),
-            ("_id", "_id", true),
-            ("_id", "_iD", false),
-        ];
-        for (own, text, same) in cases {
-            let words = Words::of(rt.alloc(), own)?;
-            assert_eq!(rt; words.is(text), same, "{own}");
-            assert_eq!(rt; words.copy()?.as_str(), own);
-            let again = Words::from_string(String::from_str(rt.alloc(), text)?);
-            assert_eq!(rt; again.as_bytes(), text.as_bytes());
-        }
-        Ok(())
-    }
-}

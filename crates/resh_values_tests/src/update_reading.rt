@@ -1,9 +1,8 @@
 //! Updates from JSON, each operator and each fault once. The cases are rows of JSON: an update, and what comes of it.
 
-use crate::operator::{Action, Operator, Side};
-use crate::path::dotted;
-use crate::{Update, UpdateFault};
-use resh_value::{Value, ValueFault, Words};
+use crate::examples::value_fault_text;
+use resh_ops::{Action, Operator, Side, Update, UpdateFault, dotted};
+use resh_value::{Value, Words};
 use serde_json::Value as Json;
 use std::alloc::{AllocError, Global};
 use std::test::Fail;
@@ -113,17 +112,6 @@ fn update_text(alloc: Global, update: &Update) -> Result<String, Fail> {
         text.push_str(action_text(alloc, action)?.as_str())?;
     }
     Ok(text)
-}
-
-fn value_fault_text(alloc: Global, fault: &ValueFault) -> Result<String, AllocError> {
-    match fault {
-        ValueFault::NotWhole { path } => format!(in alloc; "not whole {}", path.as_str()),
-        ValueFault::BadTag { path } => format!(in alloc; "bad tag {}", path.as_str()),
-        ValueFault::TooDeep { path } => format!(in alloc; "too deep {}", path.as_str()),
-        ValueFault::DollarName { path } => format!(in alloc; "dollar name {}", path.as_str()),
-        ValueFault::NotDocument { path } => format!(in alloc; "not document {}", path.as_str()),
-        ValueFault::NoMemory => String::from_str(alloc, "no memory in a value"),
-    }
 }
 
 fn fault_text(alloc: Global, fault: &UpdateFault) -> Result<String, AllocError> {

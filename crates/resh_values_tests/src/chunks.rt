@@ -1,4 +1,6 @@
-use crate::{
+//! Chunk maps, their faults and the owners of documents.
+
+use resh_chunks::{
     Bound, ChunkFault, ChunkMap, ChunkRow, Key, KeyPattern, PatternFault, each_key_has_one_owner,
 };
 use resh_value::{Document, Fields, Names, Sequence, ShardId, Value, Words};

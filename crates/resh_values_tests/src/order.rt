@@ -1,5 +1,6 @@
-// What no clause says: that the order is the one meant, and that sorts and maps take it.
-use crate::{Document, NoMemory, Sequence, Value, Words, compare};
+//! That the order is the one meant, and that sorts and maps take it.
+
+use resh_value::{Document, NoMemory, Sequence, Value, Words, compare};
 use std::alloc::Global;
 use std::cmp::Ordering;
 use std::collections::{BTreeMap, HashMap};

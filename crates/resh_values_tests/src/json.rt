@@ -1,6 +1,7 @@
 //! Values from JSON and back, each kind and each fault once. The cases are rows of JSON: a value, and what comes of it.
 
-use crate::{Document, Value, ValueFault, Words, append_quoted, path_to_name, path_to_place};
+use crate::examples::{document, value_fault_text};
+use resh_value::{Document, Value, Words, append_quoted, path_to_name, path_to_place};
 use serde_json::Value as Json;
 use std::alloc::{AllocError, Global};
 use std::test::Fail;
@@ -55,22 +56,11 @@ const DOCUMENTS: &str = r#"[
     [{"a": {"b": [1]}, "c": []}, "{\"a\":{\"b\":[1]},\"c\":[]} 3"]
 ]"#;
 
-fn fault_text(alloc: Global, fault: &ValueFault) -> Result<String, AllocError> {
-    match fault {
-        ValueFault::NotWhole { path } => format!(in alloc; "not whole {}", path.as_str()),
-        ValueFault::BadTag { path } => format!(in alloc; "bad tag {}", path.as_str()),
-        ValueFault::TooDeep { path } => format!(in alloc; "too deep {}", path.as_str()),
-        ValueFault::DollarName { path } => format!(in alloc; "dollar name {}", path.as_str()),
-        ValueFault::NotDocument { path } => format!(in alloc; "not document {}", path.as_str()),
-        ValueFault::NoMemory => String::from_str(alloc, "no memory"),
-    }
-}
-
 /// The text of a value at the path /p, or of its fault.
 fn value_answer(alloc: Global, json: &Json) -> Result<String, Fail> {
     match Value::from_json(alloc, json, &Words::of(alloc, "/p")?) {
         Ok(value) => Ok(String::from_str(alloc, value.text(alloc)?.as_str())?),
-        Err(fault) => Ok(fault_text(alloc, &fault)?),
+        Err(fault) => Ok(value_fault_text(alloc, &fault)?),
     }
 }
 
@@ -82,7 +72,7 @@ fn document_answer(alloc: Global, json: &Json) -> Result<String, Fail> {
             let depth = document.depth();
             Ok(format!(in alloc; "{} {depth}", text.as_str())?)
         }
-        Err(fault) => Ok(fault_text(alloc, &fault)?),
+        Err(fault) => Ok(value_fault_text(alloc, &fault)?),
     }
 }
 
@@ -163,8 +153,7 @@ fn paths_and_quoted_texts(rt: HostRuntime) -> Result<(), Fail> {
 #[test]
 fn a_text_comes_behind_what_is_there(rt: HostRuntime) -> Result<(), Fail> {
     let alloc = rt.alloc();
-    let json = Json::from_str(alloc, "{\"a\":1}")?;
-    let document = Document::from_json(alloc, &json, &Words::of(alloc, "")?)?;
+    let document = document(alloc, "{\"a\":1}")?;
     let bytes = document.append_text(b"= ".to_vec(alloc)?)?;
     assert_eq!(rt; bytes.as_slice(), b"= {\"a\":1}".as_slice());
     Ok(())

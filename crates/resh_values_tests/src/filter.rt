@@ -1,9 +1,10 @@
 //! Filters read and matched. The cases are rows of JSON.
 
-use crate::{Filter, FilterFault, filter_laws};
-use resh_value::{Copied, Document, NoMemory, ValueFault, Words};
+use crate::examples::{document_of, value_fault_text};
+use resh_filter::{Filter, FilterFault, filter_laws};
+use resh_value::{Copied, NoMemory, Words};
 use serde_json::Value as Json;
-use std::alloc::Global;
+use std::alloc::{AllocError, Global};
 use std::test::Fail;
 
 /// What is read as a filter at the path /p, and its first fault or its pairs.
@@ -43,26 +44,18 @@ fn place(alloc: Global) -> Result<Words, NoMemory> {
     Words::of(alloc, "/p")
 }
 
-fn fault_text(alloc: Global, fault: &FilterFault) -> Result<Words, Fail> {
-    let (name, path) = match fault {
-        FilterFault::DottedName { path } => ("dotted name", path.as_str()),
-        FilterFault::Value(ValueFault::NotDocument { path }) => ("not document", path.as_str()),
-        FilterFault::Value(ValueFault::DollarName { path }) => ("dollar name", path.as_str()),
-        FilterFault::Value(ValueFault::NotWhole { path }) => ("not whole", path.as_str()),
-        FilterFault::Value(ValueFault::BadTag { path }) => ("bad tag", path.as_str()),
-        FilterFault::Value(ValueFault::TooDeep { path }) => ("too deep", path.as_str()),
-        FilterFault::Value(ValueFault::NoMemory) => ("no memory inside", ""),
-        FilterFault::NoMemory => ("no memory", ""),
-    };
-    let text = format!(in alloc; "{name} {path}")?;
-    Ok(Words::from_string(text))
+fn fault_text(alloc: Global, fault: &FilterFault) -> Result<String, AllocError> {
+    match fault {
+        FilterFault::DottedName { path } => format!(in alloc; "dotted name {}", path.as_str()),
+        FilterFault::Value(fault) => value_fault_text(alloc, fault),
+        FilterFault::NoMemory => String::from_str(alloc, "no memory"),
+    }
 }
 
-/// The text of what was read, or its fault.
 fn answer(alloc: Global, json: &Json) -> Result<Words, Fail> {
     match Filter::read(alloc, json, &place(alloc)?) {
         Ok(filter) => Ok(filter.fields().text(alloc)?),
-        Err(fault) => fault_text(alloc, &fault),
+        Err(fault) => Ok(Words::from_string(fault_text(alloc, &fault)?)),
     }
 }
 
@@ -70,13 +63,6 @@ fn filter_of(alloc: Global, json: &Json) -> Result<Filter, Fail> {
     match Filter::read(alloc, json, &place(alloc)?) {
         Ok(filter) => Ok(filter),
         Err(_) => Err(Fail::from("no filter")),
-    }
-}
-
-fn document_of(alloc: Global, json: &Json) -> Result<Document, Fail> {
-    match Document::from_json(alloc, json, &place(alloc)?) {
-        Ok(document) => Ok(document),
-        Err(_) => Err(Fail::from("no document")),
     }
 }
 

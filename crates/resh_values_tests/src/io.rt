@@ -1,5 +1,6 @@
-// What no clause says: that calls succeed where memory is there, and that a fault in mid-stream is told.
-use crate::{
+//! That calls succeed where memory is there, and that a fault in mid-stream is told.
+
+use resh_io::{
     Cut, MemorySink, MemorySource, ReadAllFault, ReadFailed, Sink, Source, StdSink, StdSource,
     WriteFailed, read_all, write_all,
 };

@@ -1,10 +1,8 @@
 //! Changes on documents, as rows of JSON.
 
-ghost use Rattle.std.specs.Prelude.{IsTrue};
-ghost use Rattle.resh_ops.specs.Updates.{HasPaths, IsPath, IsUpdate};
-
-use crate::{Action, ChangeFault, Operator, Side, Update};
-use resh_value::{Change, Copied, Document, Names, Sequence, Value, Words};
+use crate::examples::{document, document_of, json, value_of};
+use resh_ops::{ChangeFault, Update};
+use resh_value::{Change, Copied, Document, Words};
 use serde_json::Value as Json;
 use std::alloc::{AllocError, Global};
 use std::test::Fail;
@@ -60,107 +58,6 @@ const NUMBERS: &str = r#"{
     "half": 4611686018427387904, "least": -9223372036854775808
 }"#;
 
-fn names_of(alloc: Global, text: &str) -> Result<Names, Fail> {
-    let mut names = Sequence::new(alloc);
-    for name in text.split('.') {
-        names.push(Words::of(alloc, name)?)?;
-    }
-    Ok(names)
-}
-
-fn value_of(alloc: Global, json: &Json) -> Result<Value, Fail> {
-    let read = Value::from_json(alloc, json, &Words::of(alloc, "")?);
-    Ok(read.ok().ok_or("a value")?)
-}
-
-fn document_of(alloc: Global, json: &Json) -> Result<Document, Fail> {
-    let read = Document::from_json(alloc, json, &Words::of(alloc, "")?);
-    Ok(read.ok().ok_or("a document")?)
-}
-
-fn example(alloc: Global, text: &str) -> Result<Document, Fail> {
-    document_of(alloc, &Json::from_str(alloc, text)?)
-}
-
-fn operator_of(alloc: Global, name: &str, operand: &Json) -> Result<Operator, Fail> {
-    match value_of(alloc, operand)? {
-        Value::Int(n) => Ok(number_operator(name, n)),
-        Value::Text(text) => text_operator(alloc, name, text),
-        value => Ok(value_operator(name, value)),
-    }
-}
-
-fn number_operator(name: &str, n: i64) -> Operator {
-    if name == "$inc" {
-        Operator::Inc(n)
-    } else if name == "$mul" {
-        Operator::Mul(n)
-    } else if name == "$pop" {
-        Operator::Pop(if n == 1 { Side::Last } else { Side::First })
-    } else if name == "$unset" {
-        Operator::Unset
-    } else {
-        value_operator(name, Value::Int(n))
-    }
-}
-
-fn text_operator(alloc: Global, name: &str, text: Words) -> Result<Operator, Fail> {
-    if name == "$rename" {
-        return Ok(Operator::Rename(names_of(alloc, text.as_str())?));
-    }
-    Ok(value_operator(name, Value::Text(text)))
-}
-
-fn value_operator(name: &str, value: Value) -> Operator {
-    if name == "$addToSet" {
-        Operator::AddToSet(value)
-    } else if name == "$max" {
-        Operator::Max(value)
-    } else if name == "$min" {
-        Operator::Min(value)
-    } else if name == "$push" {
-        Operator::Push(value)
-    } else {
-        Operator::Set(value)
-    }
-}
-
-fn is_path(names: &Names) -> bool
-    ensures { IsTrue result → IsPath names.now }
-{
-    match names.as_slice() {
-        [first, ..] => !first.is("_id"),
-        [] => false,
-    }
-}
-
-fn has_paths(action: &Action) -> bool
-    ensures { IsTrue result → HasPaths action.now }
-{
-    match &action.operator {
-        Operator::Rename(target) => is_path(&action.path) && is_path(target),
-        _ => is_path(&action.path),
-    }
-}
-
-fn are_actions(actions: &[Action]) -> bool
-    ensures { IsTrue result → IsUpdate actions.now }
-{
-    for action in actions {
-        if !has_paths(action) {
-            return false;
-        }
-    }
-    true
-}
-
-fn update_of(actions: Sequence<Action>) -> Result<Update, Fail> {
-    if are_actions(actions.as_slice()) {
-        return Ok(Update::of(actions));
-    }
-    Err("a path".into())
-}
-
 fn fault_text(alloc: Global, fault: &ChangeFault) -> Result<String, AllocError> {
     match fault {
         ChangeFault::NotNumber { path } => format!(in alloc; "not number {}", path.as_str()),
@@ -193,31 +90,19 @@ fn answer(alloc: Global, update: &Update, document: &Document, limit: u32) -> Re
     }
 }
 
-fn action_of(alloc: Global, row: &Json) -> Result<Action, Fail> {
-    let name = row.get(0usize).and_then(Json::as_str).ok_or("an operator")?;
-    let path = row.get(1usize).and_then(Json::as_str).ok_or("a path")?;
-    let operand = row.get(2usize).ok_or("an operand")?;
-    Ok(Action {
-        path: names_of(alloc, path)?,
-        operator: operator_of(alloc, name, operand)?,
-    })
+/// The update of a text.
+fn update(alloc: Global, text: &str) -> Result<Update, Fail> {
+    let read = Update::read(alloc, &json(alloc, text)?, &Words::of(alloc, "")?);
+    Ok(read.ok().ok_or("an update")?)
 }
 
 /// The update of one row.
 fn row_update(alloc: Global, row: &Json) -> Result<Update, Fail> {
-    let mut actions = Sequence::new(alloc);
-    actions.push(action_of(alloc, row)?)?;
-    update_of(actions)
-}
-
-/// The update of all rows together.
-fn rows_update(alloc: Global, rows: &str) -> Result<Update, Fail> {
-    let rows = Json::from_str(alloc, rows)?;
-    let mut actions = Sequence::new(alloc);
-    for row in rows.as_array().ok_or("rows")? {
-        actions.push(action_of(alloc, row)?.copied(alloc)?)?;
-    }
-    update_of(actions)
+    let name = row.get(0usize).and_then(Json::as_str).ok_or("an operator")?;
+    let path = row.get(1usize).and_then(Json::as_str).ok_or("a path")?;
+    let operand = value_of(alloc, row.get(2usize).ok_or("an operand")?)?.text(alloc)?;
+    let text = format!(in alloc; r#"{{"{name}":{{"{path}":{}}}}}"#, operand.as_str())?;
+    update(alloc, text.as_str())
 }
 
 fn row_answer(alloc: Global, row: &Json) -> Result<String, Fail> {
@@ -233,8 +118,8 @@ fn row_answer(alloc: Global, row: &Json) -> Result<String, Fail> {
 }
 
 /// The answers that aren't those of the rows, one after another.
-fn wrong_answers(alloc: Global, document: &str, rows: &str) -> Result<String, Fail> {
-    let document = example(alloc, document)?;
+fn wrong_answers(alloc: Global, document_text: &str, rows: &str) -> Result<String, Fail> {
+    let document = document(alloc, document_text)?;
     let cases = Json::from_str(alloc, rows)?;
     let mut wrong = String::new(alloc);
     for row in cases.as_array().ok_or("rows")? {
@@ -257,34 +142,24 @@ fn each_operator_changes_as_its_row_says(rt: HostRuntime) -> Result<(), Fail> {
 }
 
 #[test]
-fn actions_are_taken_one_after_another(rt: HostRuntime) -> Result<(), Fail> {
+fn operators_are_taken_in_the_order_of_their_names(rt: HostRuntime) -> Result<(), Fail> {
     let alloc = rt.alloc();
     let cases = [
         (
-            r#"{"l": [1]}"#,
-            r#"[["$push", "l", 2], ["$addToSet", "l", 2], ["$pop", "l", -1]]"#,
-            r#"{"l":[2]}"#,
+            r#"{"$push": {"d.x": 2}, "$set": {"d.y": 1}}"#,
+            r#"{"d":{"a":1,"x":[2],"y":1}}"#,
         ),
         (
-            EXAMPLE,
-            r#"[["$inc", "n", 1], ["$rename", "s", "t"], ["$unset", "l", 0]]"#,
+            r#"{"$inc": {"n": 1}, "$rename": {"s": "t"}, "$unset": {"l": 0}}"#,
             r#"{"n":6,"t":"x"} l s"#,
         ),
-        (
-            EXAMPLE,
-            r#"[["$inc", "s", 1], ["$push", "n", 1]]"#,
-            "not number s",
-        ),
-        (
-            EXAMPLE,
-            r#"[["$inc", "n", 1], ["$push", "n", 1]]"#,
-            "not array n",
-        ),
-        (EXAMPLE, r#"[["$inc", "n", 1], ["$inc", "n", -1]]"#, "{}"),
+        (r#"{"$inc": {"s": 1}, "$push": {"n": 1}}"#, "not number s"),
+        (r#"{"$push": {"s": 1}, "$inc": {"n": 1}}"#, "not array s"),
+        (r#"{"$inc": {"n": 0}, "$set": {"d.a": 1}}"#, "{}"),
     ];
-    for (document, rows, want) in cases {
-        let update = rows_update(alloc, rows)?;
-        let answer = answer(alloc, &update, &example(alloc, document)?, 1_000)?;
+    let document = document(alloc, EXAMPLE)?;
+    for (text, want) in cases {
+        let answer = answer(alloc, &update(alloc, text)?, &document, 1_000)?;
         assert_eq!(rt; answer.as_str(), want);
     }
     Ok(())
@@ -293,17 +168,16 @@ fn actions_are_taken_one_after_another(rt: HostRuntime) -> Result<(), Fail> {
 #[test]
 fn results_keep_within_their_limits(rt: HostRuntime) -> Result<(), Fail> {
     let alloc = rt.alloc();
-    let document = example(alloc, r#"{"_id": 1}"#)?;
-    let update = rows_update(alloc, r#"[["$set", "a", "x"]]"#)?;
-    let fits = answer(alloc, &update, &document, 17)?;
+    let document = document(alloc, r#"{"_id": 1}"#)?;
+    let short = update(alloc, r#"{"$set": {"a": "x"}}"#)?;
+    let fits = answer(alloc, &short, &document, 17)?;
     assert_eq!(rt; fits.as_str(), r#"{"a":"x"}"#, "17 bytes");
-    let longer = answer(alloc, &update, &document, 16)?;
+    let longer = answer(alloc, &short, &document, 16)?;
     assert_eq!(rt; longer.as_str(), "too large");
     for (levels, limit, want) in [(32, 1_000, false), (33, 1_000, true), (33, 9, false)] {
         let path = deep_path(alloc, levels)?;
-        let rows = format!(in alloc; "[[\"$set\", \"{}\", 1]]", path.as_str())?;
-        let update = rows_update(alloc, rows.as_str())?;
-        let answer = answer(alloc, &update, &document, limit)?;
+        let text = format!(in alloc; r#"{{"$set":{{"{}":1}}}}"#, path.as_str())?;
+        let answer = answer(alloc, &update(alloc, text.as_str())?, &document, limit)?;
         assert_eq!(rt; answer.as_str() == "too deep", want, "{levels} levels");
     }
     Ok(())
