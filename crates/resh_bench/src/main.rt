@@ -4,7 +4,7 @@
 #![tactic(auto)]
 
 use resh_ops::Update;
-use resh_value::{Document, NoMemory, Words};
+use resh_value::{Document, NoMemory, TEXT_LIMIT, Words};
 use serde_json::Value as Json;
 use std::alloc::Global;
 use std::env;
@@ -15,8 +15,6 @@ const FIELDS: u32 = 260;
 
 const UPDATE: &str =
     r#"{"$inc":{"count":1},"$set":{"f050":"new","n.a.b":2},"$unset":{"f200":null}}"#;
-
-const LIMIT: u32 = 16384;
 
 /// What went wrong: want of memory, or words and texts that can't be read.
 #[derive(Debug, Drop)]
@@ -59,7 +57,7 @@ fn copies(document: &Document, times: u32) -> Result<(), Stopped> {
 fn changes(alloc: Global, document: &Document, times: u32) -> Result<(), Stopped> {
     let update = update(alloc)?;
     for _ in 0..times {
-        update.change(document, LIMIT).map_err(|_| Stopped)?;
+        update.change(document, TEXT_LIMIT).map_err(|_| Stopped)?;
     }
     Ok(())
 }

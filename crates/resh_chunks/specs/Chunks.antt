@@ -52,7 +52,8 @@ end_fault (Some Max) = None
 -- the first fault of the rows from the i-th on, where the one before ends at `before`
 abbrev pub rows_fault : ℕ → ℕ → Option Bound → ℕ → List ChunkRow → Option ChunkFault
 rows_fault names shards before i [] = end_fault before
-rows_fault names shards before i (row ∷ rows) = option_or (row_fault names shards before i row) (rows_fault names shards (Some row.max) (i + 1) rows)
+rows_fault names shards before i (row ∷ rows) =
+    option_or (row_fault names shards before i row) (rows_fault names shards (Some row.max) (i + 1) rows)
 
 -- a chunk map: the pattern's names, the rows, and the number of shards
 pub record Chunks : Type 0 where
@@ -63,7 +64,8 @@ pub record Chunks : Type 0 where
 -- a chunk map is stored as the tuple of its parts
 abbrev pub chunks_code : Coded Chunks
 chunks_code =
-    code_by (List (List ℕ) × (List ChunkRow × ℕ)) (coded× (coded_list (coded_list coded_ℕ)) (coded× (coded_list row.the_row.coded) coded_ℕ))
+    code_by (List (List ℕ) × (List ChunkRow × ℕ))
+    (coded× (coded_list (coded_list coded_ℕ)) (coded× (coded_list row.the_row.coded) coded_ℕ))
     (λ c. (c.pattern, (c.rows, c.shards))) (λ p. record { pattern = p.0; rows = p.1.0; shards = p.1.1 }) (λ _. refl)
 
 abbrev pub chunk_fault : Chunks → Option ChunkFault
@@ -90,7 +92,8 @@ pub record Owns (chunks : Chunks) (key : List Value) (shard : ℕ) : Type 0 wher
 
 -- in a chunk map without fault each key has one owner, and it is among the shards
 abbrev pub EachKeyHasOneOwner : Type 0
-EachKeyHasOneOwner = (chunks : Chunks) (key : List Value) → chunk_fault chunks ≡ None → (shard : ℕ) × (shard < chunks.shards) × IsOwner chunks key shard
+EachKeyHasOneOwner = (chunks : Chunks) (key : List Value) → chunk_fault chunks ≡ None
+    → (shard : ℕ) × (shard < chunks.shards) × IsOwner chunks key shard
 
 -- every field of the pattern is equal in both documents
 abbrev pub same_key : List (List ℕ) → List (List ℕ × Value) → List (List ℕ × Value) → Bool

@@ -11,10 +11,13 @@ use Rattle.resh_chunks.specs.declared.faults.PatternFault.TheVariants.{Count, Re
 -- the place of the first name that an earlier one equals, where `before` stand before `names`
 abbrev pub first_repeat : List (List ℕ) → List (List ℕ) → Option ℕ
 first_repeat before [] = None
-first_repeat before (name ∷ names) = cond (list_any (same_name name) before) (Some (length before)) (first_repeat (before ++ name ∷ []) names)
+first_repeat before (name ∷ names) =
+    cond (list_any (same_name name) before) (Some (length before)) (first_repeat (before ++ name ∷ []) names)
 
 abbrev pub pattern_fault : List (List ℕ) → Option PatternFault
-pattern_fault names = cond (nat_lt (length names) 1 || nat_lt 3 (length names)) (Some (Count (length names))) (option_map Repeated (first_repeat [] names))
+pattern_fault names =
+    cond (nat_lt (length names) 1 || nat_lt 3 (length names)) (Some (Count (length names)))
+    (option_map Repeated (first_repeat [] names))
 
 -- the values that a document has under the pattern's names
 abbrev pub key_of : List (List ℕ) → List (List ℕ × Value) → List Value

@@ -30,7 +30,8 @@ impl Model for KeyPattern {
 impl KeyPattern {
     /// The pattern of these names, or the first fault: their number, then the first name that is repeated.
     pub fn new(names: Names) -> Result<KeyPattern, PatternFault>
-        ensures { MatchResult result (λ p. (p ≡ names) × (pattern_fault names ≡ None)) (λ f. pattern_fault names ≡ Some f) }
+        ensures { MatchResult result (λ p. (p ≡ names) × (pattern_fault names ≡ None))
+            (λ f. pattern_fault names ≡ Some f) }
     {
         match fault_of(names.as_slice()) {
             Some(fault) => Err(fault),

@@ -79,7 +79,8 @@ matches filter document = list_all (agrees document) filter
 
 -- the document has each value of the filter under its name, null where it has nothing
 abbrev pub HasValues : List (List ℕ × Value) → List (List ℕ × Value) → Type 0
-HasValues document filter = (name : List ℕ) (value : Value) → field_of filter name ≡ Some value → value_under document name ≡ value
+HasValues document filter = (name : List ℕ) (value : Value) → field_of filter name ≡ Some value
+    → value_under document name ≡ value
 
 -- the filter has a pair of the name
 abbrev pub gives : List (List ℕ × Value) → List ℕ → Bool

@@ -96,7 +96,8 @@ impl Copied for Filter {
 }
 
 fn dotted_name(alloc: Global, name: &str) -> Fault
-    ensures { result ≢ WalkFault.NoMemory → result ≡ under (to_name name.now) (WalkFault.At [] FilterFaultKind.DottedName) }
+    ensures { result ≢ WalkFault.NoMemory
+        → result ≡ under (to_name name.now) (WalkFault.At [] FilterFaultKind.DottedName) }
 {
     WalkFault::here(alloc, FilterFaultKind::DottedName).under_name(alloc, name)
 }

@@ -33,7 +33,8 @@ ReadsAll old new limit (Err NoMemory) = GivesAtMost old new (limit + 1)
 -- One read put what it took behind the bytes before. It took no more than this, and none only at the end.
 -- What was taken before memory ran out is lost.
 abbrev pub ReadsSome : Option (List ℕ) → Option (List ℕ) → ℕ → List ℕ → List ℕ → Result ℕ ReadAllFault → Type 0
-ReadsSome old new most before after (Ok n) = (taken : List ℕ) × (length taken ≡ n) × (n ≤ most) × (after ≡ before ++ taken)
+ReadsSome old new most before after (Ok n) =
+    (taken : List ℕ) × (length taken ≡ n) × (n ≤ most) × (after ≡ before ++ taken)
     × Consumes old new taken × (n ≡ 0 → IsAtEnd new)
 ReadsSome old new most before after (Err Read) = Keeps old new
 ReadsSome old new most before after (Err NoMemory) = (taken : List ℕ) × (length taken ≤ most) × Consumes old new taken

@@ -18,4 +18,3 @@ pub use source::{ReadFailed, Source};
 pub use std_sink::StdSink;
 pub use std_source::StdSource;
 pub use writing::{Cut, write_all};
-

@@ -7,7 +7,7 @@ use Rattle.std.specs.Cmp.Lexicographic.{bytes_decides}
 use Rattle.std.proofs.lemmas.List.Elements.{recursion_from_All}
 use Rattle.resh_value.specs.Names.{name_cmp, same_name}
 use Rattle.resh_value.specs.Lookup.{field_of}
-use Rattle.resh_value.specs.Order.{compare_of}
+use Rattle.resh_value.specs.Order.{compare_of, is_same}
 use Rattle.resh_value.specs.Outcome.{and_then}
 use Rattle.resh_value.specs.Text.{document_text}
 use Rattle.resh_value.specs.Depth.{document_levels}
@@ -16,7 +16,7 @@ use Rattle.resh_value.specs.declared.value.Value.TheVariants.{Int, List as Array
 use Rattle.resh_value.specs.declared.value.Value.TheOpen.{Value-F}
 use Rattle.resh_value.proofs.Names.{apart_from_unlike}
 use Rattle.resh_ops.specs.Paths.{Document, Path, Reached, here, missing, scalar, is_scalar, reach, write, erase, dotted, is_related}
-use Rattle.resh_ops.specs.Operators.{does, is_same, where_it_leads, unsets, on_array, on_number, is_i64, writes_number}
+use Rattle.resh_ops.specs.Operators.{does, where_it_leads, unsets, on_array, on_number, is_i64, writes_number}
 use Rattle.resh_ops.specs.Updates.{Made, done_at, acted, acted_all, within_limits, updated, other_path, paths_of, IsPath, path as named, HasPaths}
 use Rattle.resh_ops.specs.Laws.{SetReadsBack, KeepsUnrelated, KeepsId, ActionsKeepId}
 use Rattle.resh_ops.specs.declared.faults.ChangeFault.{ChangeFault}

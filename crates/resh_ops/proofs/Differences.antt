@@ -7,6 +7,7 @@ use Rattle.std.specs.List.{AllByRecursion, list_all}
 use Rattle.std.specs.List.Sorted.{IsStrictlySortedBy}
 use Rattle.std.specs.Map.{keys_of}
 use Rattle.std.proofs.lemmas.Map.Keys.{sorted_head, sorted_tail}
+use Rattle.resh_value.specs.Order.{is_same}
 use Rattle.resh_value.specs.Names.{name_cmp, HasRisingNames}
 use Rattle.resh_value.specs.Lookup.{field_of}
 use Rattle.resh_value.specs.OrderLaws.{same_value}
@@ -16,7 +17,6 @@ use Rattle.resh_value.proofs.Names.{same_from_equal, by_order}
 use Rattle.resh_value.proofs.FieldLaws.{field_of-below, same_fields}
 use Rattle.resh_value.proofs.ChangeLaws.{field_of-with_fields, HasRisingNames-with_fields, field_of-changed, HasRisingNames-changed}
 use Rattle.resh_ops.specs.Paths.{Document}
-use Rattle.resh_ops.specs.Operators.{is_same}
 use Rattle.resh_ops.specs.Laws.{EmptyChangeKeeps}
 use Rattle.resh_ops.specs.Changes.{assigned, is_other, unset, LeadsTo}
 

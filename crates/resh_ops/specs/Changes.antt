@@ -1,11 +1,11 @@
 -- The change that leads from a document to another: the fields that are new or differ, and the names of those that go.
 use Rattle.std.specs.Prelude.{◌≡◌, ℕ, Bool, true, not, List, filter, Option, Some, None, is_none}
 use Rattle.std.specs.Map.{keys_of}
+use Rattle.resh_value.specs.Order.{is_same}
 use Rattle.resh_value.specs.Lookup.{field_of}
 use Rattle.resh_value.specs.Change.{changed}
 use Rattle.resh_value.specs.declared.value.Value.{Value}
 use Rattle.resh_ops.specs.Paths.{Document}
-use Rattle.resh_ops.specs.Operators.{is_same}
 
 abbrev pub is_other : Option Value → Value → Bool
 is_other None value = true

@@ -18,26 +18,31 @@ use Rattle.resh_ops.specs.declared.operator.Operator.TheVariants.{Set}
 -- a value that is set stands at its path
 abbrev pub SetReadsBack : Type 0
 SetReadsBack = (name : List ℕ) (rest : Path) (value : Value) (document after : Document)
-    → acted (record { path = name ∷ rest; operator = Set value }) document ≡ Ok after → reach (name ∷ rest) after ≡ here value
+    → acted (record { path = name ∷ rest; operator = Set value }) document ≡ Ok after
+    → reach (name ∷ rest) after ≡ here value
 
 -- an action leaves what each path reaches that isn't related to one of its own
 abbrev pub KeepsUnrelated : Type 0
 KeepsUnrelated = (action : Action) (document after : Document) (other : Path)
-    → acted action document ≡ Ok after → list_any (is_related other) (paths_of action) ≡ false → reach other after ≡ reach other document
+    → acted action document ≡ Ok after → list_any (is_related other) (paths_of action) ≡ false
+    → reach other after ≡ reach other document
 
 -- an update leaves the `_id`
 abbrev pub KeepsId : Type 0
 KeepsId = (limit : ℕ) (actions : List Action) (document after : Document)
-    → IsUpdate actions → updated limit actions document ≡ Ok after → field_of after (codes "_id") ≡ field_of document (codes "_id")
+    → IsUpdate actions → updated limit actions document ≡ Ok after
+    → field_of after (codes "_id") ≡ field_of document (codes "_id")
 
 -- the same of actions without limits on their result
 abbrev pub ActionsKeepId : Type 0
 ActionsKeepId = (actions : List Action) (document after : Document)
-    → IsUpdate actions → acted_all actions document ≡ Ok after → field_of after (codes "_id") ≡ field_of document (codes "_id")
+    → IsUpdate actions → acted_all actions document ≡ Ok after
+    → field_of after (codes "_id") ≡ field_of document (codes "_id")
 
 -- where a change would name no field, the documents are the same
 abbrev pub EmptyChangeKeeps : Type 0
-EmptyChangeKeeps = (before after : Document) → HasRisingNames before → HasRisingNames after → assigned before after ≡ [] → unset before after ≡ [] → after ≡ before
+EmptyChangeKeeps = (before after : Document) → HasRisingNames before → HasRisingNames after
+    → assigned before after ≡ [] → unset before after ≡ [] → after ≡ before
 
 -- a number of 64 bits with its sign
 pub record HasWidth (n : ℤ) : Type 0 where

@@ -1,8 +1,8 @@
 -- What each operator does, by what stands at its path.
 use Rattle.std.specs.Prelude.{◌^◌, ℤ, pos, neg_ℤ, int_lt, ◌+ℤ◌, ◌*ℤ◌, Bool, cond, not, ◌&&◌, List, [], ◌∷◌, ◌++◌, take, drop, length, ◌-◌}
 use Rattle.std.specs.List.{list_any}
-use Rattle.std.specs.Ordering.{is_eq, is_lt, is_gt}
-use Rattle.resh_value.specs.Order.{compare_of}
+use Rattle.std.specs.Ordering.{is_lt, is_gt}
+use Rattle.resh_value.specs.Order.{compare_of, is_same}
 use Rattle.resh_value.specs.declared.value.Value.{Value, out-Value}
 use Rattle.resh_value.specs.declared.value.Value.TheVariants.{Int, List as Array}
 use Rattle.resh_value.specs.declared.value.Value.TheOpen.{Value-F}
@@ -42,8 +42,12 @@ abbrev pub popped : Side → List Value → List Value
 popped First items = drop 1 items
 popped Last items = take (length items - 1) items
 
-abbrev pub is_same : Value → Value → Bool
-is_same a b = is_eq (compare_of a b)
+-- the array with the value at its end, and the array with the value in it
+abbrev pub pushes : Value → List Value → Doing
+pushes value items = Writes (Array (items ++ value ∷ []))
+
+abbrev pub adds : Value → List Value → Doing
+adds value items = cond (list_any (λ item. is_same item value) items) Keeps (pushes value items)
 
 -- a path through a value that is no document leads to a missing field
 abbrev pub unsets : Reached → Doing
@@ -53,13 +57,13 @@ unsets scalar = Keeps
 
 -- the table of the operators
 abbrev pub does : Operator → Reached → Doing
-does (AddToSet value) = where_it_leads (Writes (Array (value ∷ []))) (λ old. on_array (λ items. cond (list_any (λ item. is_same item value) items) Keeps (Writes (Array (items ++ value ∷ [])))) (out-Value old))
+does (AddToSet value) = where_it_leads (Writes (Array (value ∷ []))) (λ old. on_array (adds value) (out-Value old))
 does (Inc n) = where_it_leads (Writes (Int n)) (λ old. on_number (λ m. writes_number (m +ℤ n)) (out-Value old))
 does (Max value) = where_it_leads (Writes value) (λ old. cond (is_lt (compare_of old value)) (Writes value) Keeps)
 does (Min value) = where_it_leads (Writes value) (λ old. cond (is_gt (compare_of old value)) (Writes value) Keeps)
 does (Mul n) = where_it_leads (Writes (Int (pos 0))) (λ old. on_number (λ m. writes_number (m *ℤ n)) (out-Value old))
 does (Pop side) = where_it_leads Keeps (λ old. on_array (λ items. Writes (Array (popped side items))) (out-Value old))
-does (Push value) = where_it_leads (Writes (Array (value ∷ []))) (λ old. on_array (λ items. Writes (Array (items ++ value ∷ []))) (out-Value old))
+does (Push value) = where_it_leads (Writes (Array (value ∷ []))) (λ old. on_array (pushes value) (out-Value old))
 does (Rename target) = where_it_leads Keeps (λ old. Moves target old)
 does (Set value) = where_it_leads (Writes value) (λ old. Writes value)
 does Unset = unsets

@@ -60,13 +60,15 @@ reach (name ∷ next ∷ rest) document = within (λ inner. reach (next ∷ rest
 abbrev pub write : Path → Value → Document → Document
 write [] value document = document
 write (name ∷ []) value document = with_field document name value
-write (name ∷ next ∷ rest) value document = with_field document name (Doc (write (next ∷ rest) value (unwrap_or (embedded (field_of document name)) [])))
+write (name ∷ next ∷ rest) value document =
+    with_field document name (Doc (write (next ∷ rest) value (unwrap_or (embedded (field_of document name)) [])))
 
 -- the document without the field that a path reaches
 abbrev pub erase : Path → Document → Document
 erase [] document = document
 erase (name ∷ []) document = without_field document name
-erase (name ∷ next ∷ rest) document = with_field document name (Doc (erase (next ∷ rest) (unwrap_or (embedded (field_of document name)) [])))
+erase (name ∷ next ∷ rest) document =
+    with_field document name (Doc (erase (next ∷ rest) (unwrap_or (embedded (field_of document name)) [])))
 
 -- a path's names, joined by dots
 abbrev pub dotted : Path → List ℕ

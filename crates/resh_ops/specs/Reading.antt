@@ -4,7 +4,7 @@ use Rattle.std.specs.List.{list_all, list_any, slice_split, flat_map}
 use Rattle.std.specs.Ordering.{int_eq}
 use Rattle.serde_json.specs.Data.{Data, null, boolean, number, string, array, object, Members, no_members, member}
 use Rattle.resh_value.specs.Names.{same_name}
-use Rattle.resh_value.specs.Outcome.{and_then, in_err}
+use Rattle.resh_value.specs.Outcome.{◌>>=◌, in_err}
 use Rattle.resh_value.specs.Paths.{to_name}
 use Rattle.resh_value.specs.FromJson.{walked_value, is_dollar_name, fault_at as value_fault_at, under as value_under}
 use Rattle.resh_value.specs.Limits.{dot}
@@ -43,7 +43,9 @@ begins_with_id (name ∷ rest) = same_name name (codes "_id")
 
 -- the path with these names, where `named` is the path that a bad one is reported with
 abbrev pub path_with : List ℕ → Path → Read Path
-path_with named names = cond (list_all is_step names) (cond (begins_with_id names) (ends unread.IdPath) (Ok names)) (ends (unread.BadOperand named))
+path_with named names =
+    cond (list_all is_step names) (cond (begins_with_id names) (ends unread.IdPath) (Ok names))
+    (ends (unread.BadOperand named))
 
 -- the path of a text
 abbrev pub path_of : List ℕ → List ℕ → Read Path
@@ -65,7 +67,7 @@ kind_of name =
 
 -- any value is an operand; its fault is the update's
 abbrev pub with_value : (Value → Operator) → Walked ValueFaultKind Value → Read Operator
-with_value operator read = and_then (λ value. Ok (operator value)) (in_err (as_kind unread.Value) read)
+with_value operator read = in_err (as_kind unread.Value) read >>= λ value. Ok (operator value)
 
 -- an operand of one kind; any other, also one that is no value, is bad
 abbrev pub of_kind : List ℕ → (Value-F Value → Read Operator) → Walked ValueFaultKind Value → Read Operator
@@ -78,11 +80,13 @@ with_number path operator other = ends (unread.BadOperand path)
 
 -- 1 is the last element, and -1 the first
 abbrev pub with_side : List ℕ → Value-F Value → Read Operator
-with_side path (Value-F.Int n) = cond (int_eq n (pos 1)) (Ok (Pop Last)) (cond (int_eq n (neg_ℤ (pos 1))) (Ok (Pop First)) (ends (unread.BadOperand path)))
+with_side path (Value-F.Int n) =
+    cond (int_eq n (pos 1)) (Ok (Pop Last))
+    (cond (int_eq n (neg_ℤ (pos 1))) (Ok (Pop First)) (ends (unread.BadOperand path)))
 with_side path other = ends (unread.BadOperand path)
 
 abbrev pub with_target : List ℕ → Value-F Value → Read Operator
-with_target path (Value-F.Text text) = and_then (λ target. Ok (Rename target)) (path_of path text)
+with_target path (Value-F.Text text) = path_of path text >>= λ target. Ok (Rename target)
 with_target path other = ends (unread.BadOperand path)
 
 abbrev pub operator_with : Kind → List ℕ → Walked ValueFaultKind Value → Read Operator
@@ -100,14 +104,17 @@ operator_with ToUnset path read = with_value (λ value. Unset) read
 -- an operator at the path of this text
 abbrev pub action_in : Kind → List ℕ → Data → Read Action
 action_in kind text d =
-    and_then (λ path. and_then (λ operator. Ok (record { path = path; operator = operator }))
-    (walked_at (to_name text) (operator_with kind text (walked_value d))))
-    (path_of text text)
+    path_of text text >>= λ path.
+    walked_at (to_name text) (operator_with kind text (walked_value d)) >>= λ operator.
+    Ok (record { path = path; operator = operator })
 
 -- an operator at each of its paths
 abbrev pub actions_in : Kind → Members → Read (List Action)
 actions_in kind no_members = Ok []
-actions_in kind (member text d ds) = and_then (λ action. and_then (λ actions. Ok (action ∷ actions)) (actions_in kind ds)) (action_in kind text d)
+actions_in kind (member text d ds) =
+    action_in kind text d >>= λ action.
+    actions_in kind ds >>= λ actions.
+    Ok (action ∷ actions)
 
 abbrev pub operator_in : List ℕ → Option Kind → Data → Read (List Action)
 operator_in name None d = ends (unread.UnknownOperator name)
@@ -121,12 +128,16 @@ operator_in name (Some kind) (array items) = ends (unread.BadOperand name)
 -- all operators with their paths, in the order of their names
 abbrev pub operators_in : Members → Read (List Action)
 operators_in no_members = Ok []
-operators_in (member name d ds) = and_then (λ actions. and_then (λ more. Ok (actions ++ more)) (operators_in ds)) (operator_in name (kind_of name) d)
+operators_in (member name d ds) =
+    operator_in name (kind_of name) d >>= λ actions.
+    operators_in ds >>= λ more.
+    Ok (actions ++ more)
 
 -- the first path that equals, begins or extends an earlier one, where `before` stand before `paths`
 abbrev pub first_conflict : List Path → List Path → Option Path
 first_conflict before [] = None
-first_conflict before (path ∷ paths) = cond (list_any (is_related path) before) (Some path) (first_conflict (before ++ path ∷ []) paths)
+first_conflict before (path ∷ paths) =
+    cond (list_any (is_related path) before) (Some path) (first_conflict (before ++ path ∷ []) paths)
 
 abbrev pub apart_only : List Action → Option Path → Read (List Action)
 apart_only actions None = Ok actions
@@ -138,7 +149,7 @@ without_conflict actions = apart_only actions (first_conflict [] (flat_map paths
 -- the update of a JSON value
 abbrev pub walked_update : Data → Read (List Action)
 walked_update (object no_members) = ends (unread.BadOperand [])
-walked_update (object (member name d ds)) = and_then without_conflict (operators_in (member name d ds))
+walked_update (object (member name d ds)) = operators_in (member name d ds) >>= without_conflict
 walked_update null = ends (unread.BadOperand [])
 walked_update (boolean b) = ends (unread.BadOperand [])
 walked_update (number n) = ends (unread.BadOperand [])

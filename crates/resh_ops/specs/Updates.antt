@@ -30,7 +30,8 @@ fault_of refused.ThroughScalar path = ThroughScalar path
 
 -- a value on its way to another path
 abbrev pub moved_to : Path → Value → Document → Reached → Made
-moved_to target value rest reached = cond (is_scalar reached) (Err (ThroughScalar (dotted target))) (Ok (write target value rest))
+moved_to target value rest reached =
+    cond (is_scalar reached) (Err (ThroughScalar (dotted target))) (Ok (write target value rest))
 
 abbrev pub done_at : Path → Document → Doing → Made
 done_at path document Keeps = Ok document
@@ -50,7 +51,9 @@ acted_all (action ∷ actions) document = and_then (acted_all actions) (acted ac
 
 -- a text within the limit, and at most 32 levels
 abbrev pub within_limits : ℕ → Document → Made
-within_limits limit document = cond (nat_lt limit (length (document_text document))) (Err TooLarge) (cond (nat_lt 32 (document_levels document)) (Err TooDeep) (Ok document))
+within_limits limit document =
+    cond (nat_lt limit (length (document_text document))) (Err TooLarge)
+    (cond (nat_lt 32 (document_levels document)) (Err TooDeep) (Ok document))
 
 -- the document after an update
 abbrev pub updated : ℕ → List Action → Document → Made

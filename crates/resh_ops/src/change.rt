@@ -22,10 +22,12 @@ impl Update {
     /// The change from a document to what the update makes of it. It assigns the top-level fields that are new or have
     /// another value, and unsets those that are gone.
     ///
-    /// The fault is that of the first action that has one, else `TooLarge` where the result's text has more than `limit`
-    /// bytes, else `TooDeep` where the result has more than 32 levels.
+    /// The fault is that of the first action that has one, else `TooLarge` where the result's text has more than
+    /// `limit` bytes, else `TooDeep` where the result has more than 32 levels.
     pub fn change(&self, document: &Document, limit: u32) -> Result<Change, ChangeFault>
-        ensures ok { IfOk result (λ change. (after : Fields) × (updated limit self.now document.now ≡ Ok after) × LeadsTo document.now after change.assign change.unset) }
+        ensures ok { IfOk result
+            (λ change. (after : Fields) × (updated limit self.now document.now ≡ Ok after)
+            × LeadsTo document.now after change.assign change.unset) }
         ensures fault { IfErr result (λ f. f ≢ ChangeFault.NoMemory → updated limit self.now document.now ≡ Err f) }
     {
         let alloc = self.alloc();
@@ -103,7 +105,8 @@ fn moved(
     target: &[Words],
     value: Value,
 ) -> Result<Document, ChangeFault>
-    ensures { Gives ChangeFault.NoMemory result (moved_to target.now value (erase path.now document) (reach target.now document)) }
+    ensures { Gives ChangeFault.NoMemory result
+        (moved_to target.now value (erase path.now document) (reach target.now document)) }
 {
     if leads_through_scalar(&document, target) {
         return Err(ChangeFault::ThroughScalar {

@@ -41,7 +41,9 @@ fn assign_other(
     name: &Words,
     value: &Value,
 ) -> Result<(), NoMemory>
-    ensures { OnOk result (assign.new ≡ cond (is_other (field_of before.now name.now) value.now) (with_field assign.old name.now value.now) assign.old) }
+    ensures { OnOk result
+        (assign.new ≡ cond (is_other (field_of before.now name.now) value.now)
+        (with_field assign.old name.now value.now) assign.old) }
 {
     if is_other(before.get(name), value) {
         let value = value.copy(alloc)?;
@@ -73,7 +75,8 @@ fn unset(alloc: Global, before: &Document, after: &Document) -> Result<Names, No
 }
 
 fn unset_missing(names: &mut Vec<Words>, after: &Document, name: &Words) -> Result<(), NoMemory>
-    ensures { OnOk result (names.new.items ≡ names.old.items ++ cond (is_none (field_of after.now name.now)) (name.now ∷ []) []) }
+    ensures { OnOk result
+        (names.new.items ≡ names.old.items ++ cond (is_none (field_of after.now name.now)) (name.now ∷ []) []) }
 {
     if after.get(name).is_none() {
         names.push(name.copy()?)?;

@@ -5,7 +5,7 @@ ghost use Rattle.std.specs.Ordering.{is_gt, is_lt};
 ghost use Rattle.std.specs.List.{list_any};
 ghost use Rattle.resh_value.specs.Order.{compare_of};
 ghost use Rattle.resh_value.specs.declared.value.Value.{Value, out-Value};
-ghost use Rattle.resh_ops.specs.Operators.{does, is_same, on_array, on_number, popped, writes_number};
+ghost use Rattle.resh_ops.specs.Operators.{adds, does, on_array, on_number, popped, pushes, writes_number};
 ghost use Rattle.resh_ops.specs.Paths.{reached, here, missing, scalar};
 ghost use Rattle.resh_ops.specs.declared.doing.Doing.TheVariants.{Keeps, Writes};
 
@@ -157,7 +157,7 @@ fn array_of(alloc: Global, value: &Value) -> Result<Doing, NoMemory>
 }
 
 fn push(alloc: Global, field: &Value, value: &Value) -> Result<Doing, NoMemory>
-    ensures { IfOk result (λ d. d ≡ on_array (λ items. Writes (Value.List (items ++ value.now ∷ []))) (out-Value field.now)) }
+    ensures { IfOk result (λ d. d ≡ on_array (pushes value.now) (out-Value field.now)) }
 {
     match field {
         Value::List(items) => appended(alloc, items.as_slice(), value),
@@ -166,7 +166,7 @@ fn push(alloc: Global, field: &Value, value: &Value) -> Result<Doing, NoMemory>
 }
 
 fn add_to_set(alloc: Global, field: &Value, value: &Value) -> Result<Doing, NoMemory>
-    ensures { IfOk result (λ d. d ≡ on_array (λ items. cond (list_any (λ item. is_same item value.now) items) Keeps (Writes (Value.List (items ++ value.now ∷ [])))) (out-Value field.now)) }
+    ensures { IfOk result (λ d. d ≡ on_array (adds value.now) (out-Value field.now)) }
 {
     match field {
         Value::List(items) => added(alloc, items.as_slice(), value),
@@ -175,7 +175,7 @@ fn add_to_set(alloc: Global, field: &Value, value: &Value) -> Result<Doing, NoMe
 }
 
 fn added(alloc: Global, items: &[Value], value: &Value) -> Result<Doing, NoMemory>
-    ensures { IfOk result (λ d. d ≡ cond (list_any (λ item. is_same item value.now) items.now) Keeps (Writes (Value.List (items.now ++ value.now ∷ [])))) }
+    ensures { IfOk result (λ d. d ≡ adds value.now items.now) }
 {
     if items.contains(value) {
         return Ok(Doing::Keeps);

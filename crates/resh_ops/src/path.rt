@@ -87,7 +87,8 @@ pub(crate) fn erased(
 #[tactic(auto, using(crate::proofs::PathSteps::puts_again))]
 fn take_embedded(alloc: Global, document: &mut Document, name: &Words) -> Result<Document, NoMemory>
     ensures taken { IfOk result (λ inner. inner ≡ unwrap_or (embedded (field_of document.old name.now)) []) }
-    ensures place { OnOk result ((value : Value) → with_field document.new name.now value ≡ with_field document.old name.now value) }
+    ensures place { OnOk result
+        ((value : Value) → with_field document.new name.now value ≡ with_field document.old name.now value) }
 {
     let old = document.put(name.copy()?, Value::Null)?;
     Ok(embedded_in(alloc, old))

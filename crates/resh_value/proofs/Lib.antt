@@ -1,15 +1,11 @@
+pub mod levels
+pub mod reading
 pub mod ChangeLaws
-pub mod DepthLemmas
 pub mod FieldLaws
-mod FieldSteps
-pub mod HexLemmas
+pub mod FieldSteps
+pub mod HexDigits
 pub mod MapEntries
 pub mod Names
-mod OrderDepth
-pub mod PathLemmas
-pub mod RisingLemmas
 pub mod SortedLists
 mod Standing
-pub mod TagLemmas
-pub mod WalkLemmas
 pub mod WholeLaws

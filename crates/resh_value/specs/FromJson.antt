@@ -2,7 +2,7 @@
 use Rattle.std.specs.Prelude.{ℕ, ◌+◌, ◌^◌, pos, Bool, true, false, ◌||◌, cond, ◌==◌, nat_lt, List, [], ◌∷◌, ◌++◌, slice_index, Option, Some, None, Result, Ok, Err}
 use Rattle.serde_json.specs.Data.{Num, unsigned, negative, float, Data, null, boolean, number, string, array, object, Items, no_items, item, Members, no_members, member}
 use Rattle.resh_value.specs.Limits.{dollar}
-use Rattle.resh_value.specs.Outcome.{and_then, in_err}
+use Rattle.resh_value.specs.Outcome.{◌>>=◌, in_err}
 use Rattle.resh_value.specs.Paths.{to_name, to_place}
 use Rattle.resh_value.specs.Tags.{tag_of}
 use Rattle.resh_value.specs.Walk.{Walked, ends, at_step as walked_at}
@@ -40,7 +40,7 @@ abbrev pub object_value : Option (Option Value) → Bool → Read (List (List �
 object_value (Some (Some v)) has_dollar fields = Ok v
 object_value (Some None) has_dollar fields = ends kind.BadTag
 object_value None true fields = ends kind.DollarName
-object_value None false fields = and_then (λ fs. Ok (Doc fs)) fields
+object_value None false fields = fields >>= λ fs. Ok (Doc fs)
 
 abbrev mutual
   pub value_at : ℕ → Data → Read Value
@@ -48,18 +48,27 @@ abbrev mutual
   value_at level (boolean b) = Ok (Boolean b)
   value_at level (number n) = whole n
   value_at level (string text) = Ok (Text text)
-  value_at level (array items) = cond (is_too_deep level) (ends kind.TooDeep) (and_then (λ vs. Ok (Array vs)) (items_at (level + 1) 0 items))
-  value_at level (object members) = cond (is_too_deep level) (ends kind.TooDeep) (object_value (tag_of members) (has_dollar_name members) (members_at (level + 1) members))
+  value_at level (array items) =
+      cond (is_too_deep level) (ends kind.TooDeep) (items_at (level + 1) 0 items >>= λ vs. Ok (Array vs))
+  value_at level (object members) =
+      cond (is_too_deep level) (ends kind.TooDeep)
+      (object_value (tag_of members) (has_dollar_name members) (members_at (level + 1) members))
 
   -- the items of an array, from a place on
   pub items_at : ℕ → ℕ → Items → Read (List Value)
   items_at level place no_items = Ok []
-  items_at level place (item d ds) = and_then (λ v. and_then (λ vs. Ok (v ∷ vs)) (items_at level (place + 1) ds)) (walked_at (to_place place) (value_at level d))
+  items_at level place (item d ds) =
+      walked_at (to_place place) (value_at level d) >>= λ v.
+      items_at level (place + 1) ds >>= λ vs.
+      Ok (v ∷ vs)
 
   -- the members of an object, in the order of their names
   pub members_at : ℕ → Members → Read (List (List ℕ × Value))
   members_at level no_members = Ok []
-  members_at level (member name d ds) = and_then (λ v. and_then (λ fs. Ok ((name, v) ∷ fs)) (members_at level ds)) (walked_at (to_name name) (value_at level d))
+  members_at level (member name d ds) =
+      walked_at (to_name name) (value_at level d) >>= λ v.
+      members_at level ds >>= λ fs.
+      Ok ((name, v) ∷ fs)
 
 -- a value that is read by itself stands at level 1
 abbrev pub walked_value : Data → Read Value

@@ -18,5 +18,6 @@ abbrev pub list_row : RattleType → RattleType
 list_row R = V.the_row R heap.the_row ghosts
 
 -- where items stay, so does their list
-pub list_stays : (R S : RattleType) (h : R.Denot → S.Denot) → Alike R S h → Laid (list_row R) (list_row S) (vec.mapped h)
+pub list_stays : (R S : RattleType) (h : R.Denot → S.Denot) → Alike R S h
+    → Laid (list_row R) (list_row S) (vec.mapped h)
 list_stays R S h a = laid (list_row R) (list_row S) (vec.mapped h) (vec.the_places heap.the_row ghosts R S h a)

@@ -23,7 +23,8 @@ abbrev pub kind : Value → ℕ
 kind v = rank (out-Value v)
 
 -- two values of one kind are compared by what they hold, and the shorter text, document or array is less
-abbrev pub content : {A : Type 0} → (List ℕ × A → List ℕ × Value → Ordering) → (A → Value → Ordering) → Value-F A → Value-F Value → Ordering
+abbrev pub content : {A : Type 0} → (List ℕ × A → List ℕ × Value → Ordering) → (A → Value → Ordering) → Value-F A
+    → Value-F Value → Ordering
 content by_field by_item (Value-F.Int m) (Value-F.Int n) = int_cmp m n
 content by_field by_item (Value-F.Text s) (Value-F.Text t) = name_cmp s t
 content by_field by_item (Value-F.Doc fs) (Value-F.Doc gs) = slice_cmp by_field fs gs
@@ -58,7 +59,8 @@ is_same a b = is_eq (compare_of a b)
 
 -- the same of values that stand inside
 abbrev pub compare_fields : List ℕ × Value → List ℕ × Value → Ordering
-compare_fields f g = ordering_then (nat_cmp (kind f.1) (kind g.1)) (ordering_then (name_cmp f.0 g.0) (compare_of f.1 g.1))
+compare_fields f g = ordering_then (nat_cmp (kind f.1) (kind g.1))
+    (ordering_then (name_cmp f.0 g.0) (compare_of f.1 g.1))
 
 -- documents are compared pair by pair, and the shorter is less
 abbrev pub compare_documents : List (List ℕ × Value) → List (List ℕ × Value) → Ordering

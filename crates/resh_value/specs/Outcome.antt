@@ -5,6 +5,11 @@ abbrev pub and_then : {A B E : Type 0} → (A → Result B E) → Result A E →
 and_then f (Ok x) = f x
 and_then f (Err e) = Err e
 
+-- what is read first, and what is read after it
+infixl 10 ◌>>=◌
+abbrev pub ◌>>=◌ : {A B E : Type 0} → Result A E → (A → Result B E) → Result B E
+r >>= next = and_then next r
+
 abbrev pub in_err : {A E D : Type 0} → (E → D) → Result A E → Result A D
 in_err f (Ok x) = Ok x
 in_err f (Err e) = Err (f e)

@@ -19,10 +19,13 @@ is_numeral digits = nat_lt 0 (length digits) && nat_le (length digits) 19 && lis
 
 -- a signed number of so many bits holds it
 abbrev pub is_in_bits : ℕ → List ℕ → Bool
-is_in_bits bits text = cond (starts_with_minus text) (nat_le (digits_value 10 (digits_of text)) (2 ^ bits)) (nat_lt (digits_value 10 (digits_of text)) (2 ^ bits))
+is_in_bits bits text =
+    cond (starts_with_minus text) (nat_le (digits_value 10 (digits_of text)) (2 ^ bits))
+    (nat_lt (digits_value 10 (digits_of text)) (2 ^ bits))
 
 abbrev pub whole_of : ℕ → List ℕ → Option ℤ
-whole_of bits text = cond (is_numeral (digits_of text) && is_in_bits bits text) (Some (signed_digits_value 10 text)) None
+whole_of bits text = cond (is_numeral (digits_of text) && is_in_bits bits text)
+    (Some (signed_digits_value 10 text)) None
 
 -- two hexadecimal digits a byte
 abbrev pub bytes_of_hex : List ℕ → List ℕ
@@ -41,14 +44,16 @@ whole_in bits content = option_and_then (whole_of bits) (as_str content)
 
 -- the instant of `{"$numberLong": ..}`
 abbrev pub instant_of : Members → Option Value
-instant_of (member name content no_members) = cond (same_name name (codes "$numberLong")) (option_map Date (whole_in 63 content)) None
+instant_of (member name content no_members) =
+    cond (same_name name (codes "$numberLong")) (option_map Date (whole_in 63 content)) None
 instant_of no_members = None
 instant_of (member name content (member other more rest)) = None
 
 abbrev pub date_in : Data → Option Value
 date_in content = option_and_then instant_of (as_object content)
 
--- what an object of one name stands for: the outer answer is whether the name is a tag's, the inner whether the content is
+-- what an object of one name stands for: the outer answer is whether the name is a tag's, and the inner one is
+-- what the content gives
 abbrev pub tagged : List ℕ → Data → Option (Option Value)
 tagged name content =
     cond (same_name name (codes "$oid")) (Some (oid_in content))

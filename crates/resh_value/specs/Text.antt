@@ -31,7 +31,8 @@ tokens_step (Value-F.Doc fields) = object_tokens fields
 tokens_step (Value-F.List items) = array_tokens items
 tokens_step (Value-F.Oid bytes) = tag_tokens (codes "$oid") (string (hex_of bytes) ∷ [])
 tokens_step (Value-F.Bool b) = boolean b ∷ []
-tokens_step (Value-F.Date n) = tag_tokens (codes "$date") (tag_tokens (codes "$numberLong") (string (signed_decimal n) ∷ []))
+tokens_step (Value-F.Date n) =
+    tag_tokens (codes "$date") (tag_tokens (codes "$numberLong") (string (signed_decimal n) ∷ []))
 
 unfoldable pub tokens_of : Value → List Token
 tokens_of = fold-Value (List Token) tokens_step

@@ -28,17 +28,22 @@ WholeByTest = (document : List (List ℕ × Value)) → (is_whole document ≡ t
 -- what leaves a document whole
 pub record StaysWhole : Type 0 where
   -- any field that is put, and any but `_id` that is removed
-  pub put : (document : List (List ℕ × Value)) (name : List ℕ) (value : Value) → IsWhole document → IsWhole (with_field document name value)
-  pub removed : (document : List (List ℕ × Value)) (name : List ℕ) → name ≢ codes "_id" → IsWhole document → IsWhole (without_field document name)
+  pub put : (document : List (List ℕ × Value)) (name : List ℕ) (value : Value) → IsWhole document
+      → IsWhole (with_field document name value)
+  pub removed : (document : List (List ℕ × Value)) (name : List ℕ) → name ≢ codes "_id" → IsWhole document
+      → IsWhole (without_field document name)
   -- a change that doesn't name `_id`
-  pub changed : (document assign : List (List ℕ × Value)) (unset : List (List ℕ)) → HasRisingNames assign → is_named assign unset (codes "_id") ≡ false
+  pub changed : (document assign : List (List ℕ × Value)) (unset : List (List ℕ)) → HasRisingNames assign
+      → is_named assign unset (codes "_id") ≡ false
       → IsWhole document → IsWhole (changed assign unset document)
 
 -- a document whose names rise is whole once it is given an `_id`
 abbrev pub WholeWithId : Type 0
-WholeWithId = (document : List (List ℕ × Value)) (id : Value) → HasRisingNames document → IsWhole (with_field document (codes "_id") id)
+WholeWithId = (document : List (List ℕ × Value)) (id : Value) → HasRisingNames document
+    → IsWhole (with_field document (codes "_id") id)
 
 -- a change that doesn't name a field leaves it
 abbrev pub LeavesUnnamed : Type 0 → Type 0
-LeavesUnnamed X = (fields assign : List (List ℕ × X)) (unset : List (List ℕ)) (name : List ℕ) → HasRisingNames assign → HasRisingNames fields
+LeavesUnnamed X = (fields assign : List (List ℕ × X)) (unset : List (List ℕ)) (name : List ℕ) → HasRisingNames assign
+    → HasRisingNames fields
     → is_named assign unset name ≡ false → field_of (changed assign unset fields) name ≡ field_of fields name

@@ -68,7 +68,7 @@ impl Fields<Value> {
     }
 }
 
-#[tactic(auto, using(crate::proofs::WalkLemmas::answered_under))]
+#[tactic(auto, using(crate::proofs::reading::Walked::answered_under))]
 fn answered_under(alloc: Global, path: &Words, fault: Fault) -> ValueFault
     ensures fault { result ≢ ValueFault.NoMemory → result ≡ under path.now (fault_of fault) }
     ensures memory { fault ≡ WalkFault.NoMemory → result ≡ ValueFault.NoMemory }
@@ -142,7 +142,9 @@ fn object_at(alloc: Global, members: &Map<String, Json>, level: u32) -> Result<V
 
 #[cycle(walk)]
 fn plain_object_at(alloc: Global, members: &Map<String, Json>, level: u32) -> Result<Value, Fault>
-    ensures { Gives WalkFault.NoMemory result (object_value None (has_dollar_name (members_view members.now.entries)) (members_at level (members_view members.now.entries))) }
+    ensures { Gives WalkFault.NoMemory result
+        (object_value None (has_dollar_name (members_view members.now.entries))
+        (members_at level (members_view members.now.entries))) }
 {
     if has_dollar_name(members) {
         return Err(WalkFault::here(alloc, ValueFaultKind::DollarName));

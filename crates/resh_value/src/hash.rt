@@ -4,7 +4,7 @@ ghost use Rattle.std.specs.Prelude.{◌≡◌};
 ghost use Rattle.std.specs.Hash as fed;
 ghost use Rattle.std.specs.List.{fold};
 ghost use Rattle.resh_value.specs.Hash.{content_input_of, document_input, field_input, input_of};
-ghost use Rattle.resh_value.specs.HashLaws.{values_alike, documents_alike};
+ghost use Rattle.resh_value.specs.derived.HashLaws.{values_alike, documents_alike};
 
 use crate::order::kind_of;
 use crate::value::{Document, Value};

@@ -24,7 +24,7 @@ pub fn compare(a: &Value, b: &Value) -> Ordering
 
 // By kind, and then by what they hold.
 #[cycle(order)]
-#[tactic(auto, using(crate::specs::OrderEquations::by_kind_then_content))]
+#[tactic(auto, using(crate::specs::derived::OrderEquations::by_kind_then_content))]
 fn compare_values(a: &Value, b: &Value) -> Ordering
     ensures { result ≡ compare_of a.now b.now }
 {

@@ -52,7 +52,7 @@ pub(crate) fn take_pair<T: Drop>(pairs: &mut Vec<(Words, T)>, name: &Words) -> O
     }
 }
 
-/// Removes the pairs of some names, then puts values. Room is found first, so want of memory leaves the pairs as they were.
+/// Removes the pairs of some names, then puts values. Room is found first, so that want of memory leaves all pairs.
 pub(crate) fn edit_pairs<T: Drop>(
     pairs: &mut Vec<(Words, T)>,
     unset: &[Words],

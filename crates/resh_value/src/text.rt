@@ -113,7 +113,8 @@ fn write_items(items: &Items, writer: &mut Writer) -> Result<(), NoMemory>
 }
 
 fn write_oid(bytes: &[u8; 12], writer: &mut Writer) -> Result<(), NoMemory>
-    ensures tokens { OnOk result (writer.new.tokens ≡ writer.old.tokens ++ tag_tokens (codes "$oid") (string (hex_of bytes.now) ∷ [])) }
+    ensures tokens { OnOk result
+        (writer.new.tokens ≡ writer.old.tokens ++ tag_tokens (codes "$oid") (string (hex_of bytes.now) ∷ [])) }
     ensures before { writer.new.before ≡ writer.old.before }
 {
     let digits = hex_of(bytes);
@@ -124,7 +125,8 @@ fn write_oid(bytes: &[u8; 12], writer: &mut Writer) -> Result<(), NoMemory>
 }
 
 fn write_oid_text(text: &str, writer: &mut Writer) -> Result<(), NoMemory>
-    ensures tokens { OnOk result (writer.new.tokens ≡ writer.old.tokens ++ tag_tokens (codes "$oid") (string text.now ∷ [])) }
+    ensures tokens { OnOk result
+        (writer.new.tokens ≡ writer.old.tokens ++ tag_tokens (codes "$oid") (string text.now ∷ [])) }
     ensures before { writer.new.before ≡ writer.old.before }
 {
     writer.begin_object()?;
@@ -147,7 +149,9 @@ fn hex_of(bytes: &[u8; 12]) -> [u8; 24]
 
 fn digit_at(bytes: &[u8; 12], place: usize) -> u8
     requires { place < 24 }
-    ensures value { result ≡ (if place % 2 == 0 then digit_char (slice_index bytes.now (place / 2) / 16) else digit_char (slice_index bytes.now (place / 2) % 16)) }
+    ensures value { result
+        ≡ (if place % 2 == 0 then digit_char (slice_index bytes.now (place / 2) / 16) else digit_char
+        (slice_index bytes.now (place / 2) % 16)) }
     ensures ascii { result < 128 }
 {
     let byte = bytes[place / 2];
@@ -167,7 +171,9 @@ fn hex_digit(n: u8) -> u8
 }
 
 fn write_date(n: i64, writer: &mut Writer) -> Result<(), NoMemory>
-    ensures tokens { OnOk result (writer.new.tokens ≡ writer.old.tokens ++ tag_tokens (codes "$date") (tag_tokens (codes "$numberLong") (string (signed_decimal n) ∷ []))) }
+    ensures tokens { OnOk result
+        (writer.new.tokens ≡ writer.old.tokens
+        ++ tag_tokens (codes "$date") (tag_tokens (codes "$numberLong") (string (signed_decimal n) ∷ []))) }
     ensures before { writer.new.before ≡ writer.old.before }
 {
     writer.begin_object()?;

@@ -76,7 +76,8 @@ const CONFLICTS: &str = r#"[
     [{"$rename": {"a": "a"}}, "conflict a"], [{"$rename": {"a": "a.b"}}, "conflict a.b"],
     [{"$rename": {"a.b": "a"}}, "conflict a"], [{"$rename": {"a": "b", "c": "b"}}, "conflict b"],
     [{"$rename": {"a": "b", "b": "c"}}, "conflict b"], [{"$inc": {"b": 1}, "$rename": {"a": "b.c"}}, "conflict b.c"],
-    [{"$rename": {"a": "b.c"}, "$set": {"b": 1}}, "conflict b"], [{"$rename": {"a": "b"}, "$set": {"a": 1}}, "conflict a"],
+    [{"$rename": {"a": "b.c"}, "$set": {"b": 1}}, "conflict b"],
+    [{"$rename": {"a": "b"}, "$set": {"a": 1}}, "conflict a"],
     [{"$rename": {"b": "a"}, "$inc": {"a": 1, "b": 1}}, "conflict b"]
 ]"#;
 

@@ -1,6 +1,6 @@
 use Rattle.std.proofs.Common.{◌-◌, ◌^◌, min, sym, ap, ◌∙◌}
 use Rattle.resh_value.specs.Depth.{levels_of}
-use Rattle.resh_value.proofs.DepthLemmas.{levels-Doc}
+use Rattle.resh_value.proofs.levels.Levels.{levels-Doc}
 use Rattle.resh_value.proofs.depth.+depth.Goals as goal
 
 pub levels_of-returns-in-Doc : goal.levels_of-returns-in-Doc

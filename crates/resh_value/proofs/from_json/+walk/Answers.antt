@@ -4,8 +4,8 @@ use Rattle.serde_json.specs.View.{view, items_view, members_view}
 use Rattle.resh_value.specs.FromJson.{items_at, members_at}
 use Rattle.resh_value.specs.Walk.{under}
 use Rattle.resh_value.specs.Paths.{to_name}
-use Rattle.resh_value.proofs.WalkLemmas.{after, after_all, item_fault, member_read, member_fault}
-use Rattle.resh_value.proofs.RisingLemmas.{Entry, names_rise}
+use Rattle.resh_value.proofs.reading.Walked.{after, after_all, item_fault, member_read, member_fault}
+use Rattle.resh_value.proofs.reading.RisingNames.{Entry, names_rise}
 use Rattle.resh_value.proofs.from_json.+walk.Goals as goal
 
 pub items_at-returns-in-Err : goal.items_at-returns-in-Err

@@ -1,7 +1,7 @@
 use Rattle.std.proofs.Common.{◌≡◌, drop}
 use Rattle.serde_json.specs.View.{items_view, members_view}
 use Rattle.resh_value.specs.FromJson.{items_at, members_at}
-use Rattle.resh_value.proofs.WalkLemmas.{after}
+use Rattle.resh_value.proofs.reading.Walked.{after}
 use Rattle.resh_value.proofs.from_json.+walk.Given as goal
 
 abbrev pub invariant-items_at-loop-place : goal.invariant-items_at-loop-place

@@ -4,9 +4,9 @@ use Rattle.std.specs.Hash.{fed_then}
 use Rattle.std.specs.List.{fold}
 use Rattle.resh_value.specs.Depth.{levels_of}
 use Rattle.resh_value.specs.Hash.{content_input_of}
-use Rattle.resh_value.specs.HashLaws.{input-out}
+use Rattle.resh_value.specs.derived.HashLaws.{input-out}
 use Rattle.resh_value.specs.Order.{kind}
-use Rattle.resh_value.proofs.OrderDepth.{deepest, items_levels, levels-Doc, levels-Array, item_levels, field_levels}
+use Rattle.resh_value.proofs.levels.Insides.{deepest, items_levels, levels-Doc, levels-Array, item_levels, field_levels}
 use Rattle.resh_value.proofs.hash.+hash.Goals as goal
 
 pub feed-returns : goal.feed-returns

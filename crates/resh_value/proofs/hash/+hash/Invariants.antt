@@ -2,7 +2,7 @@ use Rattle.std.proofs.Common.{◌≡◌, ◌+◌, ◌*◌, ◌≤◌, length, ta
 use Rattle.std.specs.List.{flat_map, fold}
 use Rattle.resh_value.specs.Depth.{levels_of}
 use Rattle.resh_value.specs.Hash.{input_of, field_input}
-use Rattle.resh_value.proofs.OrderDepth.{deepest, items_levels}
+use Rattle.resh_value.proofs.levels.Insides.{deepest, items_levels}
 use Rattle.resh_value.proofs.hash.+hash.Given as goal
 
 abbrev pub decreases-feed : goal.decreases-feed

@@ -2,7 +2,7 @@ use Rattle.std.proofs.Common.{arith, ap, ◌∙◌}
 use Rattle.std.proofs.cmp.SliceLoops.{ended}
 use Rattle.resh_value.specs.Depth.{levels_of}
 use Rattle.resh_value.specs.Order.{compare_of, compare_fields}
-use Rattle.resh_value.proofs.OrderDepth.{deepest, items_levels, levels-Doc, levels-Array, item_levels, field_levels}
+use Rattle.resh_value.proofs.levels.Insides.{deepest, items_levels, levels-Doc, levels-Array, item_levels, field_levels}
 use Rattle.resh_value.proofs.order.+order.Goals as goal
 
 pub compare_arrays-compare_values-found-requires : goal.compare_arrays-compare_values-found-requires

@@ -3,7 +3,7 @@ use Rattle.std.proofs.cmp.SliceLoops.{Rest}
 use Rattle.std.specs.Cmp.Lexicographic.{slice_cmp}
 use Rattle.resh_value.specs.Depth.{levels_of}
 use Rattle.resh_value.specs.Order.{compare_of, compare_fields}
-use Rattle.resh_value.proofs.OrderDepth.{deepest, items_levels}
+use Rattle.resh_value.proofs.levels.Insides.{deepest, items_levels}
 use Rattle.resh_value.proofs.order.+order.Given as goal
 
 abbrev pub decreases-compare_values : goal.decreases-compare_values

@@ -1,5 +1,5 @@
 use Rattle.std.proofs.Common.{rules}
-use Rattle.resh_value.proofs.PathLemmas.{plain_char}
+use Rattle.resh_value.proofs.reading.Escapes.{plain_char}
 use Rattle.resh_value.proofs.paths.push_escaped_char.Goals as goal
 
 pub returns : goal.returns

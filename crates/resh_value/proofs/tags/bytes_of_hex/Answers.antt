@@ -1,5 +1,5 @@
 use Rattle.std.proofs.Common.{arith}
-use Rattle.resh_value.proofs.TagLemmas.{hex_by_place}
+use Rattle.resh_value.proofs.reading.TaggedNumbers.{hex_by_place}
 use Rattle.resh_value.proofs.tags.bytes_of_hex.Goals as goal
 
 pub returns : goal.returns

@@ -1,8 +1,8 @@
 use Rattle.std.proofs.Common.{ap, sym, ◌∙◌}
 use Rattle.serde_json.specs.View.{view, members_view}
 use Rattle.resh_value.specs.Tags.{tagged, tag_of}
-use Rattle.resh_value.proofs.TagLemmas.{alone, no_tag}
-use Rattle.resh_value.proofs.RisingLemmas.{Entry}
+use Rattle.resh_value.proofs.reading.TaggedNumbers.{alone, no_tag}
+use Rattle.resh_value.proofs.reading.RisingNames.{Entry}
 use Rattle.resh_value.proofs.tags.tag_of.Goals as goal
 
 pub returns-then-len-ne1 : goal.returns-then-len-ne1

@@ -1,6 +1,6 @@
 use Rattle.std.proofs.Common.{w64, ap, sym, ◌∙◌}
 use Rattle.resh_value.specs.Tags.{digits_of, is_numeral}
-use Rattle.resh_value.proofs.TagLemmas.{unread}
+use Rattle.resh_value.proofs.reading.TaggedNumbers.{unread}
 use Rattle.resh_value.proofs.tags.whole_of.Goals as goal
 
 pub returns-in-Err : goal.returns-in-Err

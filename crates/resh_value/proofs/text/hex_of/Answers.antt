@@ -1,5 +1,5 @@
 use Rattle.std.proofs.Common.{arith}
-use Rattle.resh_value.proofs.HexLemmas.{digits_by_place}
+use Rattle.resh_value.proofs.HexDigits.{digits_by_place}
 use Rattle.resh_value.proofs.text.hex_of.Goals as goal
 
 pub returns-clause-value : goal.returns-clause-value

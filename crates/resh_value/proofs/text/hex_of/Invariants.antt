@@ -1,5 +1,5 @@
 use Rattle.std.proofs.Common.{◌≡◌, ℕ, ◌<◌, length, get_or}
-use Rattle.resh_value.proofs.HexLemmas.{digit_of}
+use Rattle.resh_value.proofs.HexDigits.{digit_of}
 use Rattle.resh_value.proofs.text.hex_of.Given as goal
 
 abbrev pub invariant-loop-place : goal.invariant-loop-place

@@ -58,15 +58,22 @@ pair_of R = Tuple (words.the_row ∷ R ∷ [])
 
 module _ (R S : RattleType) (h : R.Denot → S.Denot) where
   pair_places : Alike R S h → Alike (pair_of R) (pair_of S) (along h)
-  pair_places a = struct_places (tuple_type (words.the_row ∷ R ∷ [])) (tuple_type (words.the_row ∷ S ∷ [])) ((λ n. n), (h, tt)) (along h) (λ d. refl) refl
+  pair_places a = struct_places (tuple_type (words.the_row ∷ R ∷ [])) (tuple_type (words.the_row ∷ S ∷ []))
+      ((λ n. n), (h, tt)) (along h) (λ d. refl) refl
       ((refl, (λ n. refl, λ n. refl)), (laid _ _ _ a, tt))
 
   pub the_places : Alike R S h → Alike (C.the_row R) (C.the_row S) ((the_former this).map R.Denot S.Denot h)
-  the_places a = view_places inside (the_former this) view (λ X Y k u. refl) (λ X u. refl) R.Denot S.Denot h (C.the_row R).coded (C.the_row S).coded
-      (invariant R.Denot) (invariant S.Denot) (λ u. IsStrictlySortedBy-prop name_cmp _) (λ u. IsStrictlySortedBy-prop name_cmp _)
-      (λ u. subst (IsStrictlySortedBy name_cmp) (sym (names_stay h u.pairs.items))) (λ u. subst (IsStrictlySortedBy name_cmp) (names_stay h u.pairs.items))
+  the_places a = view_places inside (the_former this) view (λ X Y k u. refl) (λ X u. refl) R.Denot S.Denot h
+      (C.the_row R).coded (C.the_row S).coded
+      (invariant R.Denot) (invariant S.Denot) (λ u. IsStrictlySortedBy-prop name_cmp _)
+      (λ u. IsStrictlySortedBy-prop name_cmp _)
+      (λ u. subst (IsStrictlySortedBy name_cmp) (sym (names_stay h u.pairs.items)))
+      (λ u. subst (IsStrictlySortedBy name_cmp) (names_stay h u.pairs.items))
       (over (I.the_row R)) (over (I.the_row S))
-      (struct_places (I.the_type R) (I.the_type S) (mapped (along h), tt) (inside.map R.Denot S.Denot h) (λ d. refl) refl (list_stays (pair_of R) (pair_of S) (along h) (pair_places a), tt))
+      (struct_places (I.the_type R) (I.the_type S) (mapped (along h), tt) (inside.map R.Denot S.Denot h)
+      (λ d. refl) refl (list_stays (pair_of R) (pair_of S) (along h) (pair_places a), tt))
 
   pub the_codes_placed : Recodes R S h → Recodes (C.the_row R) (C.the_row S) ((the_former this).map R.Denot S.Denot h)
-  the_codes_placed e d = sym (code_map (coded× (coded_list coded_ℕ) R.coded).code (coded× (coded_list coded_ℕ) S.coded).code (along h) (λ f i. gcons ((coded_list coded_ℕ).code f.0) (sym (e f.1) i)) d)
+  the_codes_placed e d =
+      sym (code_map (coded× (coded_list coded_ℕ) R.coded).code (coded× (coded_list coded_ℕ) S.coded).code (along h)
+      (λ f i. gcons ((coded_list coded_ℕ).code f.0) (sym (e f.1) i)) d)

@@ -41,14 +41,18 @@ kept = via (heap_list this) Inside (λ X s. s.items) (λ X xs. record { items = 
 module _ (R S : RattleType) (h : R.Denot → S.Denot) where
   -- the struct stays where its items stay
   kept_stays : Alike R S h → Alike (inside.the_row R) (inside.the_row S) (kept.map R.Denot S.Denot h)
-  kept_stays a = struct_places (inside.the_type R) (inside.the_type S) (mapped h, tt) (kept.map R.Denot S.Denot h) (λ s. refl) refl (list_stays R S h a, tt)
+  kept_stays a = struct_places (inside.the_type R) (inside.the_type S) (mapped h, tt) (kept.map R.Denot S.Denot h)
+      (λ s. refl) refl (list_stays R S h a, tt)
 
-  pub the_places : Alike R S h → Alike (sequence.the_row R) (sequence.the_row S) ((the_former this).map R.Denot S.Denot h)
+  pub the_places : Alike R S h
+      → Alike (sequence.the_row R) (sequence.the_row S) ((the_former this).map R.Denot S.Denot h)
   the_places a =
-      view_places kept (the_former this) view (λ X Y k s. refl) (λ X s. refl) R.Denot S.Denot h (sequence.the_row R).coded (sequence.the_row S).coded
+      view_places kept (the_former this) view (λ X Y k s. refl) (λ X s. refl) R.Denot S.Denot h
+      (sequence.the_row R).coded (sequence.the_row S).coded
       (invariant R.Denot) (invariant S.Denot) (λ s p q. refl) (λ s p q. refl) (λ s _. tt) (λ s _. tt)
       (over (inside.the_row R)) (over (inside.the_row S)) (kept_stays a)
 
   -- a list's code is that of its items
-  pub the_codes_placed : Recodes R S h → Recodes (sequence.the_row R) (sequence.the_row S) ((the_former this).map R.Denot S.Denot h)
+  pub the_codes_placed : Recodes R S h
+      → Recodes (sequence.the_row R) (sequence.the_row S) ((the_former this).map R.Denot S.Denot h)
   the_codes_placed same xs = sym (code_map R.coded.code S.coded.code h (λ x. sym (same x)) xs)

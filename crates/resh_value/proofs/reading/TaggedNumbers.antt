@@ -10,7 +10,7 @@ use mir.Syntax.{Width}
 use mir.Val.{hbits}
 use Rattle.serde_json.specs.View.{members_view}
 use Rattle.resh_value.specs.Tags.{digits_of, is_numeral, is_in_bits, whole_of, bytes_of_hex, instant_of, tag_of}
-use Rattle.resh_value.proofs.RisingLemmas.{Entry}
+use Rattle.resh_value.proofs.reading.RisingNames.{Entry}
 
 both : (a b : Bool) → (a && b) ≡ true → (a ≡ true) × (b ≡ true)
 both true b h = (refl, h)

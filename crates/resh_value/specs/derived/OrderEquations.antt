@@ -30,21 +30,26 @@ rank-map h (Value-F.Date n) = refl
 kind-judge : (v : Value) → (judge v).kind ≡ kind v
 kind-judge v = ap (λ (j : Judge). j.kind) (fold_out-Value Judge judge_step v) ∙ rank-map judge (out-Value v)
 
-fields_judged : (fs gs : List (List ℕ × Value)) → slice_cmp field_against (map (λ f. (f.0, judge f.1)) fs) gs ≡ slice_cmp compare_fields fs gs
+fields_judged : (fs gs : List (List ℕ × Value))
+    → slice_cmp field_against (map (λ f. (f.0, judge f.1)) fs) gs ≡ slice_cmp compare_fields fs gs
 unfolding compare_of
 fields_judged [] [] = refl
 fields_judged [] (g ∷ gs) = refl
 fields_judged (f ∷ fs) [] = refl
-fields_judged (f ∷ fs) (g ∷ gs) = λ i. ordering_then (ordering_then (nat_cmp (kind-judge f.1 i) (kind g.1)) (ordering_then (name_cmp f.0 g.0) (compare_of f.1 g.1))) (fields_judged fs gs i)
+fields_judged (f ∷ fs) (g ∷ gs) =
+    λ i. ordering_then (ordering_then (nat_cmp (kind-judge f.1 i) (kind g.1))
+    (ordering_then (name_cmp f.0 g.0) (compare_of f.1 g.1))) (fields_judged fs gs i)
 
-items_judged : (xs ys : List Value) → slice_cmp (λ (j : Judge) (w : Value). j.against w) (map judge xs) ys ≡ slice_cmp compare_of xs ys
+items_judged : (xs ys : List Value)
+    → slice_cmp (λ (j : Judge) (w : Value). j.against w) (map judge xs) ys ≡ slice_cmp compare_of xs ys
 unfolding compare_of
 items_judged [] [] = refl
 items_judged [] (y ∷ ys) = refl
 items_judged (x ∷ xs) [] = refl
 items_judged (x ∷ xs) (y ∷ ys) = λ i. ordering_then (compare_of x y) (items_judged xs ys i)
 
-content_judged : (x y : Value-F Value) → judged (map-Value Value Judge judge x) y ≡ content compare_fields compare_of x y
+content_judged : (x y : Value-F Value)
+    → judged (map-Value Value Judge judge x) y ≡ content compare_fields compare_of x y
 content_judged Value-F.Null y = refl
 content_judged (Value-F.Int n) y = refl
 content_judged (Value-F.Text t) y = refl
@@ -61,7 +66,8 @@ pub by_kind_then_content : (a b : Value) → compare_of a b ≡ ordering_then (n
 unfolding compare_of
 by_kind_then_content a b =
     ap (λ (j : Judge). j.against b) (fold_out-Value Judge judge_step a)
-    ∙ (λ i. ordering_then (nat_cmp (rank-map judge (out-Value a) i) (kind b)) (content_judged (out-Value a) (out-Value b) i))
+    ∙ (λ i. ordering_then (nat_cmp (rank-map judge (out-Value a) i) (kind b))
+    (content_judged (out-Value a) (out-Value b) i))
 
 -- two layers, by kind and then by content
 abbrev layers_cmp : Value-F Value → Value-F Value → Ordering
@@ -106,4 +112,5 @@ by_first Greater s h = refl
 
 -- values of two kinds by these
 pub compare_kinds : (a b : Value) → kind a ≢ kind b → compare_of a b ≡ nat_cmp (kind a) (kind b)
-compare_kinds a b h = by_kind_then_content a b ∙ by_first (nat_cmp (kind a) (kind b)) (content_of a b) (λ e. h (nat_cmp-IsAntisymmetric (kind a) (kind b) e))
+compare_kinds a b h = by_kind_then_content a b
+    ∙ by_first (nat_cmp (kind a) (kind b)) (content_of a b) (λ e. h (nat_cmp-IsAntisymmetric (kind a) (kind b) e))

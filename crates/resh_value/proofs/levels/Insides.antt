@@ -1,7 +1,7 @@
 -- How deep documents and arrays are.
 use Rattle.std.proofs.Common.{ℕ, zero, suc, ◌<◌, ◌≤◌, List, [], ◌∷◌, length, get_or, ◌≡◌, ◌∙◌, arith, map, ap, refl}
 use Rattle.resh_value.specs.Depth.{levels_of, levels_step, greatest}
-use Rattle.resh_value.specs.OrderFolds.{fold-Doc, fold-Array}
+use Rattle.resh_value.specs.derived.OrderFolds.{fold-Doc, fold-Array}
 use Rattle.resh_value.specs.declared.value.Value.{Value}
 use Rattle.resh_value.specs.declared.value.Value.TheVariants.{Doc, List as Array}
 

@@ -1,0 +1,4 @@
+pub mod Escapes
+pub mod RisingNames
+pub mod TaggedNumbers
+pub mod Walked
