@@ -1,5 +1,5 @@
 -- What a map of chains files under each `_id`, and what it files after a write.
-use Rattle.std.proofs.Common.{◌≡◌, ◌≢◌, ℕ, Bool, true, false, cond, [], ◌∷◌, ◌++◌, Option, Some, None, Bor, unwrap_or, IfSome, IsSome, refl, sym, ap, ◌∙◌, subst}
+use Rattle.std.proofs.Common.{◌≡◌, ◌≢◌, ℕ, Bool, true, false, cond, [], ◌∷◌, ◌++◌, Option, Some, None, Bor, unwrap_or, is_some, IfSome, IsSome, refl, sym, ap, ◌∙◌, subst}
 use Rattle.std.proofs.lemmas.Map.Views.{tells_apart}
 use Rattle.std.specs.BTreeMap as tree
 use Rattle.std.specs.BTreeMap.{BTreeMap, IsOrdered, Updates, WritesThrough, is_at}
@@ -15,7 +15,7 @@ use Rattle.resh_value.specs.Order.{compare_of}
 use Rattle.resh_value.specs.OrderLaws.{compare_total, compare_same}
 use Rattle.resh_value.proofs.MapEntries.{find_lookup, in_order}
 use Rattle.resh_value.specs.declared.value.Value.{Value}
-use Rattle.resh_versions.specs.Chains.{Chain, Document, IsStored, has_versions, version, without_newest}
+use Rattle.resh_versions.specs.Chains.{Chain, Document, IsStored, has_versions, newest, version, without_newest}
 use Rattle.resh_versions.proofs.ChainLaws.{pushed_has, taken_has}
 use Rattle.resh_versions.specs.Standing.{Chains, IsChainOf, IsFiled, IsKept, StandsUnder, chain_in, filed, pushed, popped, with_chain, with_first}
 use Rattle.resh_versions.specs.declared.version.Version.{Version}
@@ -105,6 +105,10 @@ module _ (m n : Tree) (id : Value) (v : Version) (k : IsKept m) (named : IfSome 
   pushed_new first o is e same s u =
       let r = written m n id first k s (subst (λ t. SetsAt id (Some first) (found t) (found n)) same u.0) (subst (IsChainOf id) (sym e) (longer id [] v tt named)) in
       (r.0 ∙ ap (insert (filed m) id) (e ∙ ap (λ c. c ++ v ∷ []) (sym (chain_in_filed m id None k.ordered (sym is)))), r.1)
+
+-- where the map finds nothing, nothing stands
+pub none_stands : (m : Tree) (id : Value) → IsKept m → None ≡ found m id → is_some (newest (chain_in (filed m) id)) ≡ true → ⊥
+none_stands m id k is some = let never : false ≡ true = sym (ap (λ c. is_some (newest c)) (chain_in_filed m id None k.ordered (sym is))) ∙ some in cc
 
 -- the map after the last version of an `_id` was taken out
 module _ (m n : Tree) (id : Value) (chain left : Chain) (k : IsKept m) (is : Some chain ≡ found m id) (shorter : left ≡ without_newest chain) (w : WritesThrough compare_of (compare_of id) m left n) where

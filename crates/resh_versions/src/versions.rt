@@ -4,8 +4,8 @@ ghost use Rattle.std.specs.List.{All};
 ghost use Rattle.std.specs.Option.{is_some, option_copied};
 ghost use Rattle.resh_value.specs.Lookup.{id_of};
 ghost use Rattle.resh_value.specs.Whole.{is_whole};
-ghost use Rattle.resh_versions.specs.Chains.{IsStored, version};
-ghost use Rattle.resh_versions.specs.Standing.{IsChainOf, IsFiled, IsKept, StandsUnder, at, chains_above, filed, now};
+ghost use Rattle.resh_versions.specs.Chains.{IsStored, newest, version};
+ghost use Rattle.resh_versions.specs.Standing.{IsChainOf, IsFiled, IsKept, StandsUnder, at, chain_in, chains_above, filed, now};
 ghost use Rattle.resh_versions.specs.Standing.{popped, pruned, pruned_chains, pushed, standing_after, standing_now};
 ghost use Rattle.resh_versions.specs.Standing.{stored_from, with_first, with_removal, with_version, without_last};
 
@@ -104,7 +104,7 @@ impl Versions {
             time,
             document: None,
         };
-        push_version(&mut self.chains, self.alloc, id.copy(self.alloc)?, version)?;
+        push_removal(&mut self.chains, id, version)?;
         Ok(true)
     }
 
@@ -226,6 +226,26 @@ fn push_version(
         return Ok(());
     }
     chains.insert(id, Chain::of(alloc, version)?)?;
+    Ok(())
+}
+
+/// Puts a version that is nothing behind those of an `_id` under which a document stands.
+fn push_removal(
+    chains: &mut BTreeMap<Value, Chain>,
+    id: &Value,
+    version: Version,
+) -> Result<(), NoMemory>
+    requires kept { IsKept chains.old }
+    requires stands { is_some (newest (chain_in (filed chains.old) id.now)) ≡ true }
+    requires nothing { version.document ≡ None }
+    ensures ok { OnOk result (filed chains.new ≡ pushed (filed chains.old) id.now version) }
+    ensures unchanged { OnErr result (filed chains.new ≡ filed chains.old) }
+    ensures kept { IsKept chains.new }
+{
+    if let Some(chain) = chains.get_mut(id) {
+        chain.push(version)?;
+        return Ok(());
+    }
     Ok(())
 }
 
