@@ -1,1 +1,4 @@
-mod Ordered
+pub mod Fitting
+pub mod Ordered
+pub mod Staying
+pub mod Testing

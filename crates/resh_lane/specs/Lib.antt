@@ -1,3 +1,4 @@
 pub mod Lanes
 pub mod Applying
+pub mod Feeds
 pub mod Laws

@@ -1,14 +1,13 @@
-ghost use Rattle.std.specs.Prelude.{◌≡◌, ◌↔◌, ◌≤◌, ◌<◌, ◌-◌, ◌^◌, IsTrue, IfOk, IsOk, OnOk, OnErr, false, true, replicate};
+ghost use Rattle.std.specs.Prelude.{◌≡◌, ◌↔◌, ◌≤◌, ◌<◌, ◌-◌, IsTrue, IfOk, IsOk, OnOk, OnErr, false, true};
 ghost use Rattle.std.specs.FinMap.{values};
-ghost use Rattle.resh_lane.specs.Applying.{Comes};
-ghost use Rattle.resh_lane.specs.Lanes.{IsEmptied, LaneOf, advanced, gone_back, number_of, with_pool, with_started};
-ghost use Rattle.resh_rules.specs.Fits.{Fits};
-ghost use Rattle.resh_rules.specs.Upkeep.{HoldsNothing, HoldsTheSame};
+ghost use Rattle.resh_lane.specs.Applying.{Comes, LeavesRoom};
+ghost use Rattle.resh_lane.specs.Lanes.{Fits, IsLane, advanced, emptied, end_of_positions, fits, fresh, gone_back, number_of, with_started};
+ghost use Rattle.resh_rules.specs.Pools.{AreWhole, empty_pool};
 
 use crate::give::give;
 use resh_oplog::Piece;
 use resh_rules::{Pool, Rule};
-use resh_value::{Documents, NoMemory, ShardId};
+use resh_value::{Documents, END_OF_PLACES, NoMemory, ShardId};
 use std::alloc::Global;
 use std::marker::Model;
 
@@ -33,22 +32,24 @@ pub enum Applying {
 }
 
 impl Model for Lane {
-    ghost use Rattle.resh_lane.specs.Lanes.{LaneOf, lane_code, IsLane};
+    ghost use Rattle.resh_lane.specs.Lanes.{IsLane, LaneOf, lane_code, lane_of};
+    ghost use Rattle.resh_rules.specs.Pools.{Roomy, roomy_code};
 
-    ghost Value = { LaneOf };
+    ghost Value = { Roomy LaneOf };
 
-    ghost coded = { lane_code };
+    ghost coded = { roomy_code lane_code };
 
-    ghost view = { λ l. record { pool = l.pool; started = l.started; at = l.at.items; high = l.high.items } };
+    ghost view = { λ l. lane_of l.pool l.started l.at.items l.high.items };
 
-    ghost invariant = { λ l. IsLane (record { pool = l.pool; started = l.started; at = l.at.items; high = l.high.items }) };
+    ghost invariant = { λ l. IsLane (lane_of l.pool l.started l.at.items l.high.items).state };
 }
 
 impl Lane {
     /// A lane over a pool that holds nothing, at the first position of each of so many donors' feeds.
     pub fn new(alloc: Global, pool: Pool, donors: u32) -> Result<Lane, NoMemory>
-        requires { HoldsNothing pool.chunks donors pool }
-        ensures { IfOk result (λ lane. lane ≡ record { pool = pool; started = false; at = replicate donors 0; high = replicate donors 0 }) }
+        requires { pool.state ≡ empty_pool pool.state.chunks donors }
+        ensures state { IfOk result (λ lane. lane.state ≡ fresh pool.state donors) }
+        ensures spare { IfOk result (λ lane. lane.spare ≡ pool.spare) }
     {
         Ok(Lane {
             pool,
@@ -59,45 +60,49 @@ impl Lane {
     }
 
     pub fn pool(&self) -> &Pool
-        ensures { result.now ≡ self.now.pool }
+        ensures pool { result.now.state ≡ self.now.state.pool }
+        ensures spare { result.now.spare ≡ self.now.spare }
+        ensures lane { IsLane self.now.state }
     {
         &self.pool
     }
 
     /// Whether the lane was told that its links are open, since it last was emptied.
     pub fn is_started(&self) -> bool
-        ensures { result ≡ self.now.started }
+        ensures { result ≡ self.now.state.started }
     {
         self.started
     }
 
     /// The position of the next piece of a donor's feed; 0 for a donor that isn't there.
     pub fn at(&self, donor: ShardId) -> u64
-        ensures { result ≡ number_of self.now.at donor.0 }
+        ensures { result ≡ number_of self.now.state.at donor.0 }
     {
         number_of(self.at.as_slice(), donor)
     }
 
     /// The greatest position of a donor's feed that was ever reached; 0 for a donor that isn't there.
     pub fn high(&self, donor: ShardId) -> u64
-        ensures { result ≡ number_of self.now.high donor.0 }
+        ensures { result ≡ number_of self.now.state.high donor.0 }
     {
         number_of(self.high.as_slice(), donor)
     }
 
     /// Whether a piece may be given to `apply`.
     pub fn fits(&self, piece: &Piece) -> bool
-        ensures { IsTrue result ↔ ((piece.now.position < 2 ^ 62 - 1) × Fits self.now.pool piece.now.donor.0 piece.now.id piece.now.what) }
+        ensures value { result ≡ fits self.now.state piece.now }
+        ensures exactly { IsTrue result ↔ Fits self.now.state piece.now }
     {
-        piece.position < MOST && self.pool.fits(piece.donor, &piece.id, &piece.what)
+        piece.position < END_OF_POSITIONS && self.pool.fits(piece.donor, &piece.id, &piece.what)
     }
 
-    /// Takes a piece that is at its donor's position; another changes nothing. Want of memory, which can't come of a delete
-    /// nor of an insert for which there is room, leaves what is held and the positions as they were.
+    /// Takes a piece that is at its donor's position; another changes nothing. Want of memory leaves what is held and
+    /// the positions as they were; it can't come of a delete, of an insert for which there is room, nor of an update
+    /// where the donor has no such document.
     pub fn apply(&mut self, piece: Piece) -> Applying
-        requires position { piece.position < 2 ^ 62 - 1 }
-        requires fits { Fits self.old.pool piece.donor.0 piece.id piece.what }
-        ensures { Comes piece self.old result self.new }
+        requires { Fits self.old.state piece }
+        ensures state { Comes piece self.old.state result self.new.state }
+        ensures room { LeavesRoom piece self.old result self.new }
     {
         let at = self.at(piece.donor);
         let got = piece.position;
@@ -117,8 +122,9 @@ impl Lane {
     }
 
     fn advance(&mut self, donor: ShardId)
-        requires { number_of self.old.at donor.0 < 2 ^ 62 - 1 }
-        ensures { self.new ≡ advanced donor.0 self.old.pool self.old }
+        requires { number_of self.old.state.at donor.0 < end_of_positions }
+        ensures state { self.new.state ≡ advanced donor.0 self.old.state.pool self.old.state }
+        ensures spare { self.new.spare ≡ self.old.spare }
     {
         let place = donor.0 as usize;
         if place < self.at.len() {
@@ -131,7 +137,8 @@ impl Lane {
 
     /// Goes back to a position of a donor's feed, unless the lane is below it.
     pub fn back(&mut self, donor: ShardId, position: u64)
-        ensures { self.new ≡ gone_back donor.0 position self.old }
+        ensures state { self.new.state ≡ gone_back donor.0 position self.old.state }
+        ensures spare { self.new.spare ≡ self.old.spare }
     {
         let place = donor.0 as usize;
         if place < self.at.len() {
@@ -142,28 +149,30 @@ impl Lane {
 
     /// Makes room for so many inserts. Want of memory leaves all else as it was; it can't come where there is the room.
     pub fn reserve(&mut self, n: u64) -> Result<(), NoMemory>
-        ensures room { OnOk result (n ≤ self.new.pool.spare) }
-        ensures spare { self.old.pool.spare ≤ self.new.pool.spare }
-        ensures kept { HoldsTheSame self.old.pool self.new.pool }
-        ensures rest { self.new ≡ with_pool self.new.pool self.old }
-        ensures succeeds { n ≤ self.old.pool.spare → IsOk result }
+        ensures room { OnOk result (n ≤ self.new.spare) }
+        ensures spare { self.old.spare ≤ self.new.spare }
+        ensures kept { self.new.state ≡ self.old.state }
+        ensures succeeds { n ≤ self.old.spare → IsOk result }
     {
         self.pool.reserve(n)
     }
 
     /// Notes that the lane's links are open.
     pub fn start(&mut self)
-        ensures { self.new ≡ with_started true self.old }
+        ensures state { self.new.state ≡ with_started true self.old.state }
+        ensures spare { self.new.spare ≡ self.old.spare }
     {
         self.started = true;
     }
 
-    /// Hands the output's documents out by `_id`; then the lane holds nothing and isn't started. Want of memory leaves all as
-    /// it was.
+    /// Hands the output's documents out by `_id`; then the lane holds nothing and isn't started. Want of memory leaves
+    /// all as it was.
     pub fn finish(&mut self) -> Result<Documents, NoMemory>
-        ensures ok { IfOk result (λ documents. documents ≡ values self.old.pool.output) }
-        ensures emptied { OnOk result (IsEmptied self.old self.new) }
+        ensures ok { IfOk result (λ documents. documents ≡ values self.old.state.pool.output) }
+        ensures whole { IfOk result (λ documents. AreWhole documents) }
+        ensures emptied { OnOk result (self.new.state ≡ emptied self.old.state) }
         ensures unchanged { OnErr result (self.new ≡ self.old) }
+        ensures spare { self.old.spare ≤ self.new.spare }
     {
         let documents = self.pool.finish()?;
         self.started = false;
@@ -172,7 +181,8 @@ impl Lane {
 
     /// Lets all documents go; then the lane isn't started.
     pub fn clear(&mut self)
-        ensures { IsEmptied self.old self.new }
+        ensures emptied { self.new.state ≡ emptied self.old.state }
+        ensures spare { self.old.spare ≤ self.new.spare }
     {
         self.pool.clear();
         self.started = false;
@@ -180,7 +190,7 @@ impl Lane {
 }
 
 /// No piece stands at this position or above.
-const MOST: u64 = (1 << 62) - 1;
+const END_OF_POSITIONS: u64 = END_OF_PLACES - 1;
 
 fn number_of(numbers: &[u64], donor: ShardId) -> u64
     ensures { result ≡ number_of numbers.now donor.0 }

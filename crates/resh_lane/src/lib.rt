@@ -4,8 +4,6 @@
 mod give;
 mod lane;
 mod laws;
-#[cfg(test)]
-mod tests;
 
 pub use lane::{Applying, Lane};
 pub use laws::lane_laws;

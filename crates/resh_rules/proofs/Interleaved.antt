@@ -1,64 +1,64 @@
 -- Entries of several donors, one after another: each acts on the slot of its donor alone.
-use Rattle.std.proofs.Common.{◌≡◌, ◌<◌, ℕ, Bool, true, false, cond, is_some, is_none, not, List, [], ◌∷◌, length, All, Option, Some, None, option_map, refl, sym, ap, subst, ◌∙◌, ⊎_elim, length-set}
+use Rattle.std.proofs.Common.{◌≡◌, ◌<◌, ℕ, cond, List, [], ◌∷◌, length, All, Option, Some, None, option_map, refl, sym, ap, subst, ◌∙◌, ⊎_elim, length-set}
 use Rattle.std.proofs.lemmas.Bool.Decides.{eqb_tells}
 use Rattle.std.proofs.lemmas.List.Elements.{All-head, All-tail}
-use Rattle.resh_value.specs.Change.{changed}
 use Rattle.resh_value.specs.declared.value.Value.{Value}
 use Rattle.resh_chunks.specs.Chunks.{Chunks}
 use Rattle.resh_oplog.specs.declared.entry.What.{What}
 use Rattle.resh_oplog.specs.declared.entry.What.TheVariants.{Insert, Update, Delete, Final}
-use Rattle.resh_stash.specs.Stored.{Document}
-use Rattle.resh_rules.specs.Held.{Held, waits, is_owned, with_output, with_waiting}
-use Rattle.resh_rules.specs.Interleaving.{step_of, effect_of, after_all, of_donor, in_turn, effects, AllMayCome, MayCome, MayComeFrom}
-use Rattle.resh_rules.specs.Rules.{refilled, first_waiting}
+use Rattle.resh_stash.specs.Stored.{Document, changed_to}
+use Rattle.resh_feed.specs.Effects.{effect_of}
+use Rattle.resh_rules.specs.Finding.{found, pick}
+use Rattle.resh_rules.specs.Held.{Held, waits, with_output, with_waiting}
+use Rattle.resh_rules.specs.Interleaving.{after_all, of_donor, in_turn, effects, AllMayCome, MayCome, MayComeFrom}
+use Rattle.resh_rules.specs.Rules.{refilled, first_waiting, output_changed, step_of, waiting_changed}
 use Rattle.resh_rules.specs.Slots.{slot, IsSound, HasEffect}
 use Rattle.resh_rules.proofs.Ruling.{inserted_sound, inserted_effect, updated_sound, updated_effect, deleted_sound, deleted_effect}
+use Rattle.resh_rules.specs.declared.rule.Found.{Found}
+use Rattle.resh_rules.specs.declared.rule.Found.TheVariants.{Waiting, Nothing, Own, Others}
+use Rattle.resh_value.proofs.WholeLaws.{whole_changed}
 use Rattle.resh_rules.proofs.Unnamed.{id_stays, owner_stays}
 
-one_of_four : {X : Type 0} (P : X → Type 0) (a b c : Bool) (one two three four : X) → P one → P two → P three → P four → P (cond a one (cond b two (cond c three four)))
-one_of_four P true b c one two three four p q r s = p
-one_of_four P false true c one two three four p q r s = q
-one_of_four P false false true one two three four p q r s = r
-one_of_four P false false false one two three four p q r s = s
+one_picked : {X : Type 0} (P : X → Type 0) (one two three four : X) → P one → P two → P three → P four → (at : Found) → P (pick one two three four at)
+one_picked P one two three four p q r s Waiting = p
+one_picked P one two three four p q r s Nothing = q
+one_picked P one two three four p q r s Own = r
+one_picked P one two three four p q r s Others = s
 
 -- no entry brings a place to wait, or takes one
 module _ (held : Held) where
-  abbrev HasPlaces : Held → Type 0
+  abbrev pub HasPlaces : Held → Type 0
   HasPlaces after = length after.waiting ≡ length held.waiting
 
   refilled_places : (first : Option ℕ) → HasPlaces (refilled held first)
   refilled_places None = refl
   refilled_places (Some donor) = length-set held.waiting donor None
 
-  step_places : (old : Chunks) (donor : ℕ) (what : What) → HasPlaces (step_of old donor what held)
+  pub step_places : (old : Chunks) (donor : ℕ) (what : What) → HasPlaces (step_of old donor what held)
   step_places old donor (Insert d) =
-      one_of_four HasPlaces (is_some (waits held donor)) (is_none held.output) (is_owned old donor held.output)
-      (with_waiting held donor (Some d)) (with_output held (Some d)) (with_output held (Some d)) (with_waiting held donor (Some d))
-      (length-set held.waiting donor (Some d)) refl refl (length-set held.waiting donor (Some d))
+      one_picked HasPlaces (with_waiting held donor (Some d)) (with_output held (Some d)) (with_output held (Some d)) (with_waiting held donor (Some d))
+      (length-set held.waiting donor (Some d)) refl refl (length-set held.waiting donor (Some d)) (found old donor held)
   step_places old donor (Update id change) =
-      let f : Document → Document = changed change.assign change.unset in
-      one_of_four HasPlaces (is_some (waits held donor)) (is_none held.output) (not (is_owned old donor held.output))
-      (with_waiting held donor (option_map f (waits held donor))) held held (with_output held (option_map f held.output))
-      (length-set held.waiting donor (option_map f (waits held donor))) refl refl refl
+      one_picked HasPlaces (waiting_changed donor change held) held (output_changed change held) held
+      (length-set held.waiting donor (option_map (changed_to change) (waits held donor))) refl refl refl (found old donor held)
   step_places old donor (Delete id) =
-      one_of_four HasPlaces (is_some (waits held donor)) (is_none held.output) (not (is_owned old donor held.output))
-      (with_waiting held donor None) held held (refilled held (first_waiting held))
-      (length-set held.waiting donor None) refl refl (refilled_places (first_waiting held))
+      one_picked HasPlaces (with_waiting held donor None) held (refilled held (first_waiting held)) held
+      (length-set held.waiting donor None) refl (refilled_places (first_waiting held)) refl (found old donor held)
   step_places old donor Final = refl
 
 module _ (old : Chunks) (id : Value) where
   -- one entry
   module _ (held : Held) (s : IsSound old id held) (donor : ℕ) where
-    step_sound : (what : What) → MayComeFrom old id donor what → IsSound old id (step_of old donor what held)
-    step_sound (Insert d) may = inserted_sound old id held donor d s may.0 may.1
+    pub step_sound : (what : What) → MayComeFrom old id donor what → IsSound old id (step_of old donor what held)
+    step_sound (Insert d) may = inserted_sound old id held donor d s may.0 may.1 may.2
     step_sound (Update own change) may =
-        updated_sound old id held donor change.assign change.unset s (λ d. id_stays change.assign change.unset d may.id) (λ d. owner_stays old change.assign change.unset d may.key)
+        updated_sound old id held donor change s (λ d is. whole_changed d change.assign change.unset may.0 may.1.id is) (λ d. id_stays change.assign change.unset d may.1.id) (λ d. owner_stays old change.assign change.unset d may.1.key)
     step_sound (Delete own) may = deleted_sound old id held donor s
     step_sound Final may = s
 
-    step_effect : (what : What) → donor < length held.waiting → MayComeFrom old id donor what → HasEffect old donor (effect_of what) held (step_of old donor what held)
-    step_effect (Insert d) lt may = inserted_effect old id held donor d s may.1 lt
-    step_effect (Update own change) lt may = updated_effect old id held donor change.assign change.unset s (λ d. owner_stays old change.assign change.unset d may.key)
+    pub step_effect : (what : What) → donor < length held.waiting → MayComeFrom old id donor what → HasEffect old donor (effect_of what) held (step_of old donor what held)
+    step_effect (Insert d) lt may = inserted_effect old id held donor d s may.2 lt
+    step_effect (Update own change) lt may = updated_effect old id held donor change s (λ d. owner_stays old change.assign change.unset d may.1.key)
     step_effect (Delete own) lt may = deleted_effect old id held donor s
     step_effect Final lt may = record { here = refl; others = λ other n. refl }
 

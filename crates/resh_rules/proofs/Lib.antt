@@ -1,3 +1,4 @@
+pub mod Giving
 mod Writing
 mod Pooling
 pub mod Ruling

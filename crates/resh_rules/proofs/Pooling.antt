@@ -1,25 +1,18 @@
 -- How writes act on a pool.
-use Rattle.std.proofs.Common.{Bor, ◌≡◌, ◌<◌, ℕ, ◌^◌, Bool, true, false, cond, List, length, slice_index_or, slice_set, is_some, is_none, not, Option, Some, None, refl, sym, ap, ◌∙◌, subst}
+use Rattle.std.proofs.Common.{Bor, ◌≡◌, ◌<◌, ◌≤◌, ◌+◌, ◌-◌, ℕ, min, arith, true, false, cond, List, length, slice_index_or, slice_set, is_some, Option, Some, None, refl, sym, ap, ◌∙◌, subst}
 use Rattle.std.proofs.lemmas.List.{length-map}
-use Rattle.std.specs.Cmp.{tied_itself}
-use Rattle.std.specs.Option.{option_copied}
+use Rattle.std.specs.Option.{option_copied, option_map}
 use Rattle.std.specs.FinMap.{get}
-use Rattle.std.specs.Ordering.{is_eq}
-use Rattle.resh_value.specs.OrderLaws.{compare_total}
+use Rattle.resh_value.specs.Order.{is_same}
+use Rattle.resh_value.specs.OrderLaws.{same_from_test, same_itself}
+use Rattle.resh_value.specs.declared.change.Change.{Change}
 use Rattle.resh_value.specs.declared.value.Value.{Value}
 use Rattle.resh_chunks.specs.Chunks.{Chunks}
-use Rattle.resh_stash.specs.Stored.{Document, StashOf}
-use Rattle.resh_rules.specs.Finding.{found, pick}
-use Rattle.resh_rules.specs.Held.{Held, waits, is_owned, with_output, with_waiting}
-use Rattle.resh_rules.specs.Pools.{PoolOf, ActsOn, IsPool, held_of, is_same, pool_of, documents_of, waiting_of}
-use Rattle.resh_rules.specs.Rules.{first_waiting, on_insert, on_change, refilled}
-use Rattle.resh_rules.specs.Slots.{IsSound}
-use Rattle.resh_rules.specs.Writes.{IsWritten, IsWrittenAt}
-use Rattle.resh_rules.proofs.Writing.{same_id}
-use Rattle.resh_rules.specs.declared.rule.Found.TheVariants.{Waiting, Nothing, Own, Others}
-
-same_itself : (id : Value) → is_same id id ≡ true
-same_itself id = ap is_eq (tied_itself compare_total id)
+use Rattle.resh_stash.specs.Stored.{Document, StashOf, changed_to}
+use Rattle.resh_rules.specs.Held.{Held, with_output, with_waiting}
+use Rattle.resh_rules.specs.Pools.{PoolOf, Roomy, ActsOn, SoundAfter, held_of, pool_of, room_of, roomy_of, documents_of, waiting_of}
+use Rattle.resh_rules.specs.Rules.{first_waiting, output_changed, refilled, waiting_changed}
+use Rattle.resh_rules.specs.Writes.{AltersAt, IsAltered, IsWritten, IsWrittenAt, waits_in}
 
 module _ (old : Chunks) (id : Value) (written : Option Document) where
   pub output_acts : (output output' : StashOf) (stashes : List StashOf) → IsWritten output.documents output'.documents id written
@@ -55,17 +48,6 @@ module _ (id : Value) where
   pub acts_not : (f : Held → Held) (pool : PoolOf) → held_of pool id ≡ f (held_of pool id) → ActsOn id f pool pool
   acts_not f pool is = record { here = is; elsewhere = λ other apart. refl; chunks = refl; donors = refl }
 
-  pub stays_pool : (f : Held → Held) (before after : PoolOf) → IsPool before → ActsOn id f before after → IsSound before.chunks id (f (held_of before id)) → IsPool after
-  stays_pool f before after pool a sound = record {
-    sound = λ other.
-        elim (is_same other id) as (λ b. is_same other id ≡ b → IsSound after.chunks other (held_of after other)) [
-          | true ↦ λ same. subst (λ q. IsSound after.chunks q (held_of after q)) (sym (same_id other id same))
-              (subst (λ h. IsSound after.chunks id h) (sym a.here) (subst (λ o. IsSound o id (f (held_of before id))) (sym a.chunks) sound))
-          | false ↦ λ apart. subst (λ h. IsSound after.chunks other h) (sym (a.elsewhere other apart)) (subst (λ o. IsSound o other (held_of before other)) (sym a.chunks) (pool.sound other))
-        ] refl;
-    few = subst (λ n. n < 2 ^ 32) (sym a.donors) pool.few;
-  }
-
 module _ (chunks : Chunks) (id : Value) (output output' : StashOf) (stashes : List StashOf) where
   -- where none waits, a refill empties the output
   pub refills_none : first_waiting (held_of (pool_of chunks output stashes) id) ≡ None → IsWritten output.documents output'.documents id None
@@ -83,28 +65,44 @@ module _ (chunks : Chunks) (id : Value) (output output' : StashOf) (stashes : Li
       acts_by id (λ held. with_output (with_waiting held place None) (Some document)) (λ held. refilled held (first_waiting held)) _ _ both
       ((λ i. with_output (with_waiting before place None) (sym waits i)) ∙ ap (refilled before) (sym first))
 
+-- what is held is changed
+module _ (old : Chunks) (id : Value) (change : Change) where
+  pub output_alters : (output output' : StashOf) (stashes : List StashOf) → IsAltered output.documents output'.documents id change
+      → ActsOn id (output_changed change) (pool_of old output stashes) (pool_of old output' stashes)
+  output_alters output output' stashes w =
+      let now : Option Document = option_map (changed_to change) (get output.documents id) in
+      acts_by id (λ held. with_output held now) (output_changed change) (pool_of old output stashes) (pool_of old output' stashes) (output_acts old id now output output' stashes w) refl
+
+  pub waiting_alters : (output : StashOf) (stashes stashes' : List StashOf) (place : ℕ) → AltersAt stashes stashes' place id change
+      → ActsOn id (waiting_changed place change) (pool_of old output stashes) (pool_of old output stashes')
+  waiting_alters output stashes stashes' place w =
+      let now : Option Document = option_map (changed_to change) (waits_in stashes place id) in
+      acts_by id (λ held. with_waiting held place now) (waiting_changed place change) (pool_of old output stashes) (pool_of old output stashes') (waiting_acts old id now output stashes stashes' place w) refl
+
+-- a pool's state and room, as contracts see them
+module _ (old : Chunks) (output : StashOf) (stashes : List StashOf) (pool : Roomy PoolOf) (view : roomy_of old output stashes ≡ pool) where
+  pub state_is : pool_of old output stashes ≡ pool.state
+  state_is = ap (λ (p : Roomy PoolOf). p.state) view
+
+  pub room_is : room_of output stashes ≡ pool.spare
+  room_is = ap (λ (p : Roomy PoolOf). p.spare) view
+
+  pub acted : (id : Value) (step : Held → Held) (after : PoolOf) → ActsOn id step (pool_of old output stashes) after → ActsOn id step pool.state after
+  acted id step after a = subst (λ p. ActsOn id step p after) state_is a
+
+  pub sound_inside : (id : Value) (step : Held → Held) → SoundAfter id step pool.state → SoundAfter id step (pool_of old output stashes)
+  sound_inside id step s = subst (SoundAfter id step) (sym state_is) s
+
+  pub donor_inside : (donor : ℕ) → donor < length pool.state.stashes → donor < length stashes
+  donor_inside donor lt = subst (λ n. donor < n) (length-map stashes (λ (s : StashOf). s.documents)) (subst (λ (p : PoolOf). donor < length p.stashes) (sym state_is) lt)
+
+-- the room that is left
+pub room_less : (end spare spare' count count' n : ℕ) → spare ≤ spare' + n → count' ≤ count + n → min spare (end - count) ≤ min spare' (end - count') + n
+room_less end spare spare' count count' n less more = omega (arith, less, more)
+
 pub copied_some : {X : Type 0} (o : Option (Bor X)) → is_some o ≡ is_some (option_copied o)
 copied_some (Some x) = refl
 copied_some None = refl
 
 pub within_stashes : (stashes : List StashOf) (place : ℕ) → place < length (documents_of stashes) → place < length stashes
 within_stashes stashes place within = subst (λ n. place < n) (length-map stashes (λ (s : StashOf). s.documents)) within
-
-insert_cases : {X : Type 0} (a b c : Bool) (w x y z : X) → cond a w (cond b x (cond c y z)) ≡ pick w x y z (cond a Waiting (cond b Nothing (cond c Own Others)))
-insert_cases true b c w x y z = refl
-insert_cases false true c w x y z = refl
-insert_cases false false true w x y z = refl
-insert_cases false false false w x y z = refl
-
-change_cases : {X : Type 0} (a b c : Bool) (w x y z : X) → cond a w (cond b x (cond (not c) y z)) ≡ pick w x z y (cond a Waiting (cond b Nothing (cond c Own Others)))
-change_cases true b c w x y z = refl
-change_cases false true c w x y z = refl
-change_cases false false true w x y z = refl
-change_cases false false false w x y z = refl
-
-module _ {X : Type 0} (old : Chunks) (donor : ℕ) (held : Held) (w x y z : X) where
-  pub insert_picks : on_insert old donor held w x y z ≡ pick w x y z (found old donor held)
-  insert_picks = insert_cases (is_some (waits held donor)) (is_none held.output) (is_owned old donor held.output) w x y z
-
-  pub change_picks : on_change old donor held w x y z ≡ pick w x z y (found old donor held)
-  change_picks = change_cases (is_some (waits held donor)) (is_none held.output) (is_owned old donor held.output) w x y z

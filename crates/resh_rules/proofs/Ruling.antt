@@ -8,14 +8,18 @@ use Rattle.std.proofs.lemmas.List.{get_or-set_same, get_or-set_other, get_or_pas
 use Rattle.std.proofs.lemmas.List.Quantifiers.{position-Some}
 use Rattle.std.proofs.lemmas.List.Sums.{fails_before_first}
 use Rattle.std.proofs.lemmas.Option.{none-some}
-use Rattle.resh_value.specs.Change.{changed}
+use Rattle.resh_value.specs.declared.change.Change.{Change}
 use Rattle.resh_value.specs.Lookup.{id_of}
+use Rattle.resh_value.specs.Whole.{IsWhole}
 use Rattle.resh_value.specs.declared.value.Value.{Value}
 use Rattle.resh_chunks.specs.Chunks.{Chunks, owner_of}
-use Rattle.resh_stash.specs.Stored.{Document}
+use Rattle.resh_stash.specs.Stored.{Document, changed_to}
+use Rattle.resh_feed.specs.Effects.{set_to, changed_by, emptied}
 use Rattle.resh_rules.specs.Held.{Held, waits, is_owned, with_output, with_waiting}
-use Rattle.resh_rules.specs.Rules.{on_insert, on_change, inserted, updated, first_waiting, refilled, deleted}
-use Rattle.resh_rules.specs.Slots.{slot, IsSound, StandsFor, HasEffect, set_to, changed_by, emptied}
+use Rattle.resh_rules.specs.Finding.{found, pick}
+use Rattle.resh_rules.specs.Rules.{inserted, updated, first_waiting, refilled, deleted}
+use Rattle.resh_rules.specs.Slots.{slot, IsSound, StandsFor, HasEffect}
+use Rattle.resh_rules.specs.declared.rule.Found.TheVariants.{Waiting, Nothing, Own, Others}
 
 by_equal : {P : Type 0} (a b : ℕ) → (a ≡ b → P) → (a ≢ b → P) → P
 by_equal a b f g = ⊎_elim (λ h. f h.1) (λ h. g h.1) (eqb_tells a b)
@@ -59,38 +63,22 @@ module _ (old : Chunks) (x : Document) (donor : ℕ) where
   unowned_at : owner_of old x ≢ donor → is_owned old donor (Some x) ≡ false
   unowned_at n = ⊎_elim (λ h. absurd (n h.1)) (λ h. h.0) (eqb_tells (owner_of old x) donor)
 
--- each rule with what is true of it
+-- each place with what is true there
 module _ {X : Type 0} (P : X → Type 0) (old : Chunks) (donor : ℕ) (held : Held) (one two three four : X) where
-  by_insert : ((x : Document) → waits held donor ≡ Some x → P one)
+  by_found : ((x : Document) → waits held donor ≡ Some x → P one)
       → (waits held donor ≡ None → held.output ≡ None → P two)
       → ((x : Document) → waits held donor ≡ None → held.output ≡ Some x → owner_of old x ≡ donor → P three)
       → ((x : Document) → waits held donor ≡ None → held.output ≡ Some x → owner_of old x ≢ donor → P four)
-      → P (on_insert old donor held one two three four)
-  by_insert a b c d =
-      let R : Option Document → Option Document → Type 0 = λ w o. P (cond (is_some w) one (cond (is_none o) two (cond (is_owned old donor o) three four))) in
-      let Q : Bool → Type 0 = λ t. P (cond t three four) in
+      → P (pick one two three four (found old donor held))
+  by_found a b c d =
+      let R : Option Document → Option Document → Type 0 = λ w o. P (pick one two three four (cond (is_some w) Waiting (cond (is_none o) Nothing (cond (is_owned old donor o) Own Others)))) in
+      let Q : Bool → Type 0 = λ t. P (pick one two three four (cond t Own Others)) in
       by_option (waits held donor)
       (λ n. subst (λ w. R w held.output) (sym n) (by_option held.output
       (λ o. subst (R None) (sym o) (b n o))
       (λ x o. subst (R None) (sym o) (by_equal (owner_of old x) donor
       (λ e. subst Q (sym (owned_at old x donor e)) (c x n o e))
       (λ e. subst Q (sym (unowned_at old x donor e)) (d x n o e))))))
-      (λ x w. subst (λ w. R w held.output) (sym w) (a x w))
-
-  by_change : ((x : Document) → waits held donor ≡ Some x → P one)
-      → (waits held donor ≡ None → held.output ≡ None → P two)
-      → ((x : Document) → waits held donor ≡ None → held.output ≡ Some x → owner_of old x ≢ donor → P three)
-      → ((x : Document) → waits held donor ≡ None → held.output ≡ Some x → owner_of old x ≡ donor → P four)
-      → P (on_change old donor held one two three four)
-  by_change a b c d =
-      let R : Option Document → Option Document → Type 0 = λ w o. P (cond (is_some w) one (cond (is_none o) two (cond (not (is_owned old donor o)) three four))) in
-      let Q : Bool → Type 0 = λ t. P (cond (not t) three four) in
-      by_option (waits held donor)
-      (λ n. subst (λ w. R w held.output) (sym n) (by_option held.output
-      (λ o. subst (R None) (sym o) (b n o))
-      (λ x o. subst (R None) (sym o) (by_equal (owner_of old x) donor
-      (λ e. subst Q (sym (owned_at old x donor e)) (d x n o e))
-      (λ e. subst Q (sym (unowned_at old x donor e)) (c x n o e))))))
       (λ x w. subst (λ w. R w held.output) (sym w) (a x w))
 
 -- what waits after a stash's document is another
@@ -109,7 +97,7 @@ module _ (old : Chunks) (id : Value) where
   pub empty_sound : (waiting : List (Option Document)) → ((donor : ℕ) → slice_index_or waiting donor None ≡ None) → IsSound old id (record { output = None; waiting = waiting })
   empty_sound waiting none =
       let never : (donor : ℕ) (x : Document) → slice_index_or waiting donor None ≡ Some x → ⊥ = λ donor x w. none-some x (sym (none donor) ∙ w) in
-      record { output_named = λ x e. absurd (none-some x e); named = λ d x w. absurd (never d x w); owned = λ d x w. absurd (never d x w); behind = λ d x w. absurd (never d x w) }
+      record { output_whole = λ x e. absurd (none-some x e); output_named = λ x e. absurd (none-some x e); whole = λ d x w. absurd (never d x w); named = λ d x w. absurd (never d x w); owned = λ d x w. absurd (never d x w); behind = λ d x w. absurd (never d x w) }
 
   module _ (held : Held) (s : IsSound old id held) where
     apart : (donor : ℕ) (x y : Document) → waits held donor ≡ Some y → held.output ≡ Some x → owner_of old x ≢ donor
@@ -122,10 +110,12 @@ module _ (old : Chunks) (id : Value) where
     alone donor x o e = by_option (waits held donor) (λ n. n) (λ y w. absurd (apart donor x y w o e))
 
     -- a document comes to a stash
-    put_sound : (donor : ℕ) (x : Document) → id_of x ≡ id → owner_of old x ≡ donor → is_some held.output ≡ true → is_owned old donor held.output ≡ false → IsSound old id (with_waiting held donor (Some x))
-    put_sound donor x named owner filled other =
+    put_sound : (donor : ℕ) (x : Document) → IsWhole x → id_of x ≡ id → owner_of old x ≡ donor → is_some held.output ≡ true → is_owned old donor held.output ≡ false → IsSound old id (with_waiting held donor (Some x))
+    put_sound donor x is named owner filled other =
         record {
+          output_whole = s.output_whole;
           output_named = s.output_named;
+          whole = λ d y w. by_waiting held donor d (Some x) y w (λ e v. subst IsWhole (same x y v) is) (λ n u. s.whole d y u);
           named = λ d y w. by_waiting held donor d (Some x) y w (λ e v. ap id_of (sym (same x y v)) ∙ named) (λ n u. s.named d y u);
           owned = λ d y w. by_waiting held donor d (Some x) y w (λ e v. ap (owner_of old) (sym (same x y v)) ∙ owner ∙ sym e) (λ n u. s.owned d y u);
           behind = λ d y w. by_waiting held donor d (Some x) y w (λ e v. (filled, ap (λ k. is_owned old k held.output) e ∙ other)) (λ n u. s.behind d y u);
@@ -135,17 +125,21 @@ module _ (old : Chunks) (id : Value) where
     clear_sound : (donor : ℕ) → IsSound old id (with_waiting held donor None)
     clear_sound donor =
         record {
+          output_whole = s.output_whole;
           output_named = s.output_named;
+          whole = λ d y w. by_waiting held donor d None y w (λ e v. absurd (none-some y v)) (λ n u. s.whole d y u);
           named = λ d y w. by_waiting held donor d None y w (λ e v. absurd (none-some y v)) (λ n u. s.named d y u);
           owned = λ d y w. by_waiting held donor d None y w (λ e v. absurd (none-some y v)) (λ n u. s.owned d y u);
           behind = λ d y w. by_waiting held donor d None y w (λ e v. absurd (none-some y v)) (λ n u. s.behind d y u);
         }
 
     -- a document comes to the output
-    output_sound : (x : Document) → id_of x ≡ id → ((donor : ℕ) (y : Document) → waits held donor ≡ Some y → owner_of old x ≢ donor) → IsSound old id (with_output held (Some x))
-    output_sound x named other =
+    output_sound : (x : Document) → IsWhole x → id_of x ≡ id → ((donor : ℕ) (y : Document) → waits held donor ≡ Some y → owner_of old x ≢ donor) → IsSound old id (with_output held (Some x))
+    output_sound x is named other =
         record {
+          output_whole = λ y e. subst IsWhole (same x y e) is;
           output_named = λ y e. ap id_of (sym (same x y e)) ∙ named;
+          whole = s.whole;
           named = s.named;
           owned = s.owned;
           behind = λ d y w. (refl, unowned_at old x d (other d y w));
@@ -154,39 +148,38 @@ module _ (old : Chunks) (id : Value) where
   -- a document goes from a stash to the output
   refill_sound : (held : Held) (donor : ℕ) (y : Document) → IsSound old id held → waits held donor ≡ Some y → IsSound old id (with_waiting (with_output held (Some y)) donor None)
   refill_sound held donor y s w =
-      output_sound (with_waiting held donor None) (clear_sound held s donor) y (s.named donor y w)
+      output_sound (with_waiting held donor None) (clear_sound held s donor) y (s.whole donor y w) (s.named donor y w)
       (λ d z u. by_waiting held donor d None z u (λ e v. absurd (none-some z v)) (λ n v e. n (sym e ∙ s.owned donor y w)))
 
 module _ (old : Chunks) (id : Value) (held : Held) (donor : ℕ) where
-  pub inserted_sound : (document : Document) → IsSound old id held → id_of document ≡ id → owner_of old document ≡ donor → IsSound old id (inserted old donor document held)
-  inserted_sound document s named owner =
-      by_insert (IsSound old id) old donor held
+  pub inserted_sound : (document : Document) → IsSound old id held → IsWhole document → id_of document ≡ id → owner_of old document ≡ donor → IsSound old id (inserted old donor document held)
+  inserted_sound document s is named owner =
+      by_found (IsSound old id) old donor held
       (with_waiting held donor (Some document)) (with_output held (Some document)) (with_output held (Some document)) (with_waiting held donor (Some document))
-      (λ x w. put_sound old id held s donor document named owner (s.behind donor x w).0 (s.behind donor x w).1)
-      (λ n o. output_sound old id held s document named (λ d y w. absurd (none-some y (sym (none_behind old id held s o d) ∙ w))))
-      (λ x n o e. output_sound old id held s document named (λ d y w k. apart old id held s d x y w o (e ∙ sym owner ∙ k)))
-      (λ x n o e. put_sound old id held s donor document named owner (ap is_some o) (ap (is_owned old donor) o ∙ unowned_at old x donor e))
+      (λ x w. put_sound old id held s donor document is named owner (s.behind donor x w).0 (s.behind donor x w).1)
+      (λ n o. output_sound old id held s document is named (λ d y w. absurd (none-some y (sym (none_behind old id held s o d) ∙ w))))
+      (λ x n o e. output_sound old id held s document is named (λ d y w k. apart old id held s d x y w o (e ∙ sym owner ∙ k)))
+      (λ x n o e. put_sound old id held s donor document is named owner (ap is_some o) (ap (is_owned old donor) o ∙ unowned_at old x donor e))
 
-  pub updated_sound : (assign : Document) (unset : List (List ℕ)) → IsSound old id held → ((document : Document) → id_of (changed assign unset document) ≡ id_of document)
-      → ((document : Document) → owner_of old (changed assign unset document) ≡ owner_of old document) → IsSound old id (updated old donor assign unset held)
-  updated_sound assign unset s named owner =
-      let f : Document → Document = changed assign unset in
-      by_change (IsSound old id) old donor held (with_waiting held donor (option_map f (waits held donor))) held held (with_output held (option_map f held.output))
+  pub updated_sound : (change : Change) → IsSound old id held → ((document : Document) → IsWhole document → IsWhole (changed_to change document)) → ((document : Document) → id_of (changed_to change document) ≡ id_of document)
+      → ((document : Document) → owner_of old (changed_to change document) ≡ owner_of old document) → IsSound old id (updated old donor change held)
+  updated_sound change s whole named owner =
+      let f : Document → Document = changed_to change in
+      by_found (IsSound old id) old donor held (with_waiting held donor (option_map f (waits held donor))) held (with_output held (option_map f held.output)) held
       (λ x w.
       subst (λ v. IsSound old id (with_waiting held donor (option_map f v))) (sym w)
-      (put_sound old id held s donor (f x) (named x ∙ s.named donor x w) (owner x ∙ s.owned donor x w) (s.behind donor x w).0 (s.behind donor x w).1))
+      (put_sound old id held s donor (f x) (whole x (s.whole donor x w)) (named x ∙ s.named donor x w) (owner x ∙ s.owned donor x w) (s.behind donor x w).0 (s.behind donor x w).1))
       (λ n o. s)
-      (λ x n o e. s)
       (λ x n o e.
       subst (λ v. IsSound old id (with_output held (option_map f v))) (sym o)
-      (output_sound old id held s (f x) (named x ∙ s.output_named x o) (λ d y w k. apart old id held s d x y w o (sym (owner x) ∙ k))))
+      (output_sound old id held s (f x) (whole x (s.output_whole x o)) (named x ∙ s.output_named x o) (λ d y w k. apart old id held s d x y w o (sym (owner x) ∙ k))))
+      (λ x n o e. s)
 
   pub deleted_sound : IsSound old id held → IsSound old id (deleted old donor held)
   deleted_sound s =
-      by_change (IsSound old id) old donor held (with_waiting held donor None) held held (refilled held (first_waiting held))
+      by_found (IsSound old id) old donor held (with_waiting held donor None) held (refilled held (first_waiting held)) held
       (λ x w. clear_sound old id held s donor)
       (λ n o. s)
-      (λ x n o e. s)
       (λ x n o e.
       by_option (first_waiting held)
       (λ f. subst (λ t. IsSound old id (refilled held t)) (sym f) (empty_sound old id held.waiting (λ d. none_filled held.waiting d f)))
@@ -194,6 +187,7 @@ module _ (old : Chunks) (id : Value) (held : Held) (donor : ℕ) where
       let filled = some_of (waits held t) (position-Some is_some held.waiting t None f).1 in
       subst (λ t. IsSound old id (refilled held t)) (sym f)
       (subst (λ v. IsSound old id (with_waiting (with_output held v) t None)) (sym filled.1) (refill_sound old id held t filled.0 s filled.1))))
+      (λ x n o e. s)
 
 -- a donor's slot from what waits and from the output
 module _ (old : Chunks) (held : Held) (donor : ℕ) where
@@ -243,22 +237,22 @@ module _ (old : Chunks) (id : Value) (held : Held) (donor : ℕ) where
       record { here = slot_waiting old (with_waiting held donor (Some document)) donor document (get_or-set_same held.waiting donor (Some document) None lt); others = λ d m. others_waiting old held donor d (Some document) m } in
       let other : (d : ℕ) → d ≢ donor → is_owned old d (Some document) ≡ false = λ d m. unowned_at old document d (λ k. m (sym k ∙ owner)) in
       let here : waits held donor ≡ None → slot old (with_output held (Some document)) donor ≡ Some document = λ n. slot_output old (with_output held (Some document)) donor n (owned_at old document donor owner) in
-      by_insert (HasEffect old donor (set_to document) held) old donor held
+      by_found (HasEffect old donor (set_to document) held) old donor held
       (with_waiting held donor (Some document)) (with_output held (Some document)) (with_output held (Some document)) (with_waiting held donor (Some document))
       (λ x w. put)
       (λ n o. record { here = here n; others = λ d m. others_output old held d (Some document) (ap (is_owned old d) o) (other d m) })
       (λ x n o e. record { here = here n; others = λ d m. others_output old held d (Some document) (output_unowned old held x o d (λ k. m (sym k ∙ e))) (other d m) })
       (λ x n o e. put)
 
-  pub updated_effect : (assign : Document) (unset : List (List ℕ)) → IsSound old id held → ((document : Document) → owner_of old (changed assign unset document) ≡ owner_of old document)
-      → HasEffect old donor (changed_by assign unset) held (updated old donor assign unset held)
-  updated_effect assign unset s owner =
-      let f : Document → Document = changed assign unset in
-      let E : Held → Type 0 = HasEffect old donor (changed_by assign unset) held in
+  pub updated_effect : (change : Change) → IsSound old id held → ((document : Document) → owner_of old (changed_to change document) ≡ owner_of old document)
+      → HasEffect old donor (changed_by change.assign change.unset) held (updated old donor change held)
+  updated_effect change s owner =
+      let f : Document → Document = changed_to change in
+      let E : Held → Type 0 = HasEffect old donor (changed_by change.assign change.unset) held in
       let left : is_owned old donor held.output ≡ false → waits held donor ≡ None → E held = λ h n.
       let none : slot old held donor ≡ None = slot_unowned old held donor h ∙ n in
       record { here = none ∙ ap (option_map f) (sym none); others = λ d m. refl } in
-      by_change E old donor held (with_waiting held donor (option_map f (waits held donor))) held held (with_output held (option_map f held.output))
+      by_found E old donor held (with_waiting held donor (option_map f (waits held donor))) held (with_output held (option_map f held.output)) held
       (λ x w.
       let lt = within held.waiting donor x w in
       subst (λ v. E (with_waiting held donor (option_map f v))) (sym w)
@@ -267,26 +261,25 @@ module _ (old : Chunks) (id : Value) (held : Held) (donor : ℕ) where
         others = λ d m. others_waiting old held donor d (Some (f x)) m;
       }))
       (λ n o. left (ap (is_owned old donor) o) n)
-      (λ x n o e. left (output_unowned old held x o donor e) n)
       (λ x n o e.
       subst (λ v. E (with_output held (option_map f v))) (sym o)
       (record {
         here = slot_output old (with_output held (Some (f x))) donor n (owned_at old (f x) donor (owner x ∙ e)) ∙ ap (option_map f) (sym (slot_output old held donor n (output_owned old held x o donor e) ∙ o));
         others = λ d m. others_output old held d (Some (f x)) (output_unowned old held x o d (λ k. m (sym k ∙ e))) (unowned_at old (f x) d (λ k. m (sym k ∙ owner x ∙ e)));
       }))
+      (λ x n o e. left (output_unowned old held x o donor e) n)
 
   pub deleted_effect : IsSound old id held → HasEffect old donor emptied held (deleted old donor held)
   deleted_effect s =
       let E : Held → Type 0 = HasEffect old donor emptied held in
       let left : is_owned old donor held.output ≡ false → waits held donor ≡ None → E held = λ h n. record { here = slot_unowned old held donor h ∙ n; others = λ d m. refl } in
-      by_change E old donor held (with_waiting held donor None) held held (refilled held (first_waiting held))
+      by_found E old donor held (with_waiting held donor None) held (refilled held (first_waiting held)) held
       (λ x w.
       record {
         here = slot_unowned old (with_waiting held donor None) donor (s.behind donor x w).1 ∙ get_or-set_same held.waiting donor None None (within held.waiting donor x w);
         others = λ d m. others_waiting old held donor d None m;
       })
       (λ n o. left (ap (is_owned old donor) o) n)
-      (λ x n o e. left (output_unowned old held x o donor e) n)
       (λ x n o e.
       by_option (first_waiting held)
       (λ f. subst (λ t. E (refilled held t)) (sym f) (record { here = slot_unowned old (with_output held None) donor refl ∙ n; others = λ d m. others_output old held d None (output_unowned old held x o d (λ k. m (sym k ∙ e))) refl }))
@@ -294,6 +287,7 @@ module _ (old : Chunks) (id : Value) (held : Held) (donor : ℕ) where
       let filled = some_of (waits held t) (position-Some is_some held.waiting t None f).1 in
       subst (λ t. E (refilled held t)) (sym f)
       (subst (λ v. E (with_waiting (with_output held v) t None)) (sym filled.1) (refill_effect old id held s donor t x filled.0 n o e filled.1))))
+      (λ x n o e. left (output_unowned old held x o donor e) n)
 
 -- what is held stands for its slots
 module _ (old : Chunks) (id : Value) (held : Held) where

@@ -1,17 +1,23 @@
 -- What stashes hold and what room they have, as one after another is reserved in, emptied or read.
-use Rattle.std.proofs.Common.{◌≡◌, ◌≤◌, ◌<◌, ℕ, zero, suc, ◌-◌, ◌^◌, List, [], ◌∷◌, ◌++◌, length, take, replicate, get_or, slice_index_or, slice_set, Option, None, IsOk, Result, Ok, Err, arith, refl, sym, ap, subst, ◌∙◌}
+use Rattle.std.proofs.Common.{◌≡◌, ◌≤◌, ◌<◌, ℕ, zero, suc, ◌+◌, ◌-◌, ◌^◌, List, [], ◌∷◌, ◌++◌, length, map, true, take, replicate, get_or, slice_index_or, slice_set, Option, None, IsOk, Result, Ok, Err, arith, refl, sym, ap, subst, ◌∙◌}
 use Rattle.std.proofs.Math.Seq.{take-suc}
-use Rattle.std.proofs.lemmas.List.{length-replicate, take_all}
-use Rattle.std.specs.FinMap.{empty, get, get-empty}
+use Rattle.std.proofs.lemmas.List.{length-map, length-replicate, take_all}
+use Rattle.std.specs.FinMap.{empty, entries, get, get-empty, len, len-empty, values}
+use Rattle.std.specs.List.{Contains}
+use Rattle.std.proofs.lemmas.List.Elements.{All-cons, All-nil}
 use Rattle.resh_value.specs.Order.{compare_of}
+use Rattle.resh_value.specs.OrderLaws.{compare_same, compare_total}
+use Rattle.resh_value.specs.Whole.{is_whole}
+use Rattle.resh_value.proofs.MapEntries.{entry_found}
+use Rattle.resh_value.proofs.WholeLaws.{whole_decides}
 use Rattle.resh_value.specs.declared.value.Value.{Value}
 use Rattle.resh_chunks.specs.Chunks.{Chunks}
-use Rattle.resh_stash.specs.Stored.{Stored, StashOf, first_id}
+use Rattle.resh_stash.specs.Stored.{Document, Stored, StashOf, first_id}
 use Rattle.resh_rules.proofs.Ruling.{empty_sound}
 use Rattle.resh_rules.proofs.Writing.{least_at}
-use Rattle.resh_rules.specs.Pools.{PoolOf, IsPool, documents_of, first_stashed, held_of, lesser, spare_of, stashed, waiting_of}
+use Rattle.resh_rules.specs.Pools.{AreWhole, PoolOf, IsKept, IsPool, cleared, documents_of, first_stashed, held_of, lesser, pool_of, spare_of, stashed, waiting_of}
 use Rattle.resh_rules.specs.Slots.{IsSound}
-use Rattle.resh_rules.specs.Upkeep.{HaveRoom, HoldsNothing}
+use Rattle.resh_rules.specs.Upkeep.{HaveRoom}
 
 -- a stash that is emptied
 pub emptied_more : (stashes : List StashOf) (place : ℕ) (s : StashOf) → place < length stashes → documents_of (take place stashes) ≡ replicate place empty → s.documents ≡ empty
@@ -96,12 +102,43 @@ none_waits zero id donor = refl
 none_waits (suc n) id zero = get-empty compare_of id
 none_waits (suc n) id (suc donor) = none_waits n id donor
 
-pub nothing_kept : (old : Chunks) (donors : ℕ) (pool : PoolOf) → HoldsNothing old donors pool → donors < 2 ^ 32 → IsPool pool
-nothing_kept old donors pool none few = record {
-  sound = λ id.
-      let held : held_of pool id ≡ record { output = None; waiting = waiting_of (replicate donors empty) id } =
-      let output : get pool.output id ≡ None = ap (λ (m : Stored). get m id) none.output ∙ get-empty compare_of id in
-      λ i. record { output = output i; waiting = waiting_of (none.stashes i) id } in
-      subst (λ h. IsSound pool.chunks id h) (sym held) (empty_sound pool.chunks id (waiting_of (replicate donors empty) id) (none_waits donors id));
-  few = let many = ap length none.stashes ∙ length-replicate donors empty in omega (arith, many, few);
+pub none_counted : (stashes : List StashOf) (donors : ℕ) → documents_of stashes ≡ replicate donors empty → stashed (documents_of stashes) ≡ 0
+none_counted stashes donors is = ap stashed is ∙ by donors
+  where
+    by : (n : ℕ) → stashed (replicate n empty) ≡ 0
+    by zero = refl
+    by (suc n) = let none = len-empty compare_of Document in let rest = by n in omega (arith, none, rest)
+
+pub nothing_kept : (old : Chunks) (donors : ℕ) (pool : PoolOf) → pool.chunks ≡ old → pool.output ≡ empty → pool.stashes ≡ replicate donors empty → donors < 2 ^ 32 → IsKept pool
+nothing_kept old donors pool chunks none stashes few = record {
+  pool = record {
+    sound = λ id.
+        let held : held_of pool id ≡ record { output = None; waiting = waiting_of (replicate donors empty) id } =
+        let output : get pool.output id ≡ None = ap (λ (m : Stored). get m id) none ∙ get-empty compare_of id in
+        λ i. record { output = output i; waiting = waiting_of (stashes i) id } in
+        subst (λ h. IsSound pool.chunks id h) (sym held) (empty_sound pool.chunks id (waiting_of (replicate donors empty) id) (none_waits donors id));
+    few = let many = ap length stashes ∙ length-replicate donors empty in omega (arith, many, few);
+  };
+  count = let none = ap stashed stashes ∙ none_of donors in omega (arith, none);
 }
+  where
+    none_of : (n : ℕ) → stashed (replicate n empty) ≡ 0
+    none_of zero = refl
+    none_of (suc n) = let none = len-empty compare_of Document in let rest = none_of n in omega (arith, none, rest)
+
+-- what is left where all goes
+pub nothing_held : (old : Chunks) (stashes : List StashOf) (output output' : StashOf) (stashes' : List StashOf) → output'.documents ≡ empty → documents_of stashes' ≡ replicate (length stashes) empty
+    → pool_of old output' stashes' ≡ cleared (pool_of old output stashes)
+nothing_held old stashes output output' stashes' none nones =
+    let many : length stashes ≡ length (documents_of stashes) = sym (length-map stashes (λ (s : StashOf). s.documents)) in
+    let each = nones ∙ ap (λ n. replicate n empty) many in
+    λ i. record { chunks = old; output = none i; stashes = each i }
+
+-- each document of the output is whole
+module _ (pool : PoolOf) (is : IsPool pool) where
+  entries_whole : (es : List (Value × Document)) → ((q : Value) (d : Document) → Contains es (q, d) → is_whole d ≡ true) → AreWhole (map (λ (e : Value × Document). e.1) es)
+  entries_whole [] each = All-nil (λ (d : Document). is_whole d ≡ true)
+  entries_whole (e ∷ es) each = All-cons (λ (d : Document). is_whole d ≡ true) e.1 (map (λ (x : Value × Document). x.1) es) (each e.0 e.1 (0, omega arith, refl)) (entries_whole es (λ q d there. each q d (suc there.0, omega (arith, there.1), there.2)))
+
+  pub all_whole : AreWhole (values pool.output)
+  all_whole = entries_whole (entries pool.output) (λ q d there. (whole_decides d).1 ((is.sound q).output_whole d (entry_found compare_total compare_same pool.output q d there)))

@@ -1,28 +1,17 @@
 -- Writes of one document, as look-ups see them, and the room that they leave.
-use Rattle.std.proofs.Common.{◌≡◌, ◌≤◌, ◌<◌, ℕ, ◌+◌, min, Bool, true, false, not, nat_lt, position, cond, List, [], ◌∷◌, length, map, zero, suc, slice_index_or, slice_set, is_some, IsTrue, IsOk, OnOk, OnErr, Result, Ok, Err, Option, Some, None, arith, refl, sym, ap, subst, ◌∙◌}
+use Rattle.std.proofs.Common.{◌≡◌, ◌≤◌, ◌<◌, ℕ, ◌+◌, min, ◌-◌, Bool, true, false, not, nat_lt, position, cond, List, [], ◌∷◌, length, map, zero, suc, slice_index_or, slice_set, is_some, IsTrue, IsOk, OnOk, OnErr, Result, Ok, Err, Option, Some, None, arith, refl, sym, ap, subst, ◌∙◌}
 use Rattle.std.proofs.lemmas.List.{length-map, length-set}
 use Rattle.std.proofs.lemmas.Option.{same_Some}
 use Rattle.std.specs.List.{prefix_len}
 use Rattle.std.specs.Option.{option_map, option_map_or}
-use Rattle.std.specs.FinMap.{get, insert, remove, get-insert, get-remove}
-use Rattle.std.specs.Ordering.{is_eq}
-use Rattle.std.specs.declared.cmp.Ordering.{Ordering}
-use Rattle.std.specs.declared.cmp.Ordering.TheVariants.{Less, Equal, Greater}
-use Rattle.resh_value.specs.Change.{changed}
-use Rattle.resh_value.specs.Order.{compare_of}
-use Rattle.resh_value.specs.OrderLaws.{compare_total, compare_same}
+use Rattle.std.specs.FinMap.{contains_key, get, insert, len, remove, get-insert, get-remove, len-insert, len-remove}
+use Rattle.resh_value.specs.Order.{is_same}
+use Rattle.resh_value.specs.OrderLaws.{compare_total, same_from_test}
+use Rattle.resh_value.specs.declared.change.Change.{Change}
 use Rattle.resh_value.specs.declared.value.Value.{Value}
-use Rattle.resh_stash.specs.Stored.{Document, Stored, StashOf, applied}
-use Rattle.resh_rules.specs.Pools.{documents_of, is_same, spare_of, waiting_of}
+use Rattle.resh_stash.specs.Stored.{Document, Stored, StashOf, applied, changed_to}
+use Rattle.resh_rules.specs.Pools.{documents_of, put_at, spare_of, stashed, waiting_of}
 use Rattle.resh_rules.specs.Writes.{IsWritten}
-
-pub tied : (r : Ordering) → is_eq r ≡ true → r ≡ Equal
-tied Less e = cc
-tied Equal e = refl
-tied Greater e = cc
-
-pub same_id : (a b : Value) → is_same a b ≡ true → a ≡ b
-same_id a b e = compare_same a b (tied (compare_of a b) e)
 
 pub put_written : (before after : Stored) (id : Value) (document : Document) → after ≡ insert before id document → IsWritten before after id (Some document)
 put_written before after id document is other = ap (λ m. get m other) is ∙ get-insert compare_total before id document other
@@ -31,16 +20,39 @@ pub taken_written : (before after : Stored) (id : Value) → after ≡ remove be
 taken_written before after id is other = ap (λ m. get m other) is ∙ get-remove compare_total before id other
 
 missing_same : (m : Stored) (id other : Value) (b : Bool) → is_same other id ≡ b → get m id ≡ None → get m other ≡ cond b None (get m other)
-missing_same m id other true same none = subst (λ q. get m q ≡ None) (sym (same_id other id same)) none
+missing_same m id other true same none = subst (λ q. get m q ≡ None) (sym (same_from_test other id same)) none
 missing_same m id other false same none = refl
 
-altered : (before : Stored) (id other : Value) (assign : Document) (unset : List (List ℕ)) (o : Option Document) → get before id ≡ o
-    → get (option_map_or (λ d. insert before id (changed assign unset d)) o before) other ≡ cond (is_same other id) (option_map (changed assign unset) o) (get before other)
-altered before id other assign unset (Some d) is = get-insert compare_total before id (changed assign unset d) other
-altered before id other assign unset None is = missing_same before id other (is_same other id) refl is
+altered : (before : Stored) (id other : Value) (change : Change) (o : Option Document) → get before id ≡ o
+    → get (option_map_or (λ d. insert before id (changed_to change d)) o before) other ≡ cond (is_same other id) (option_map (changed_to change) o) (get before other)
+altered before id other change (Some d) is = get-insert compare_total before id (changed_to change d) other
+altered before id other change None is = missing_same before id other (is_same other id) refl is
 
-pub alter_written : (before after : Stored) (id : Value) (assign : Document) (unset : List (List ℕ)) → after ≡ applied before id assign unset → IsWritten before after id (option_map (changed assign unset) (get before id))
-alter_written before after id assign unset is other = ap (λ m. get m other) is ∙ altered before id other assign unset (get before id) refl
+pub alter_written : (before after : Stored) (id : Value) (change : Change) → after ≡ applied before id change → IsWritten before after id (option_map (changed_to change) (get before id))
+alter_written before after id change is other = ap (λ m. get m other) is ∙ altered before id other change (get before id) refl
+
+-- as many documents as before, at most one more, or no more
+pub put_count : (before after : Stored) (id : Value) (document : Document) → after ≡ insert before id document → len after ≤ len before + 1
+put_count before after id document is = by (contains_key before id) (ap len is ∙ len-insert compare_total before id document)
+  where
+    by : (b : Bool) → len after ≡ cond b (len before) (len before + 1) → len after ≤ len before + 1
+    by true e = omega (arith, e)
+    by false e = omega (arith, e)
+
+pub take_count : (before after : Stored) (id : Value) → after ≡ remove before id → len after ≤ len before
+take_count before after id is = by (contains_key before id) (ap len is ∙ len-remove compare_total before id)
+  where
+    by : (b : Bool) → len after ≡ cond b (len before - 1) (len before) → len after ≤ len before
+    by true e = omega (arith, e)
+    by false e = omega (arith, e)
+
+alter_each : (before : Stored) (id : Value) (change : Change) (o : Option Document) → get before id ≡ o
+    → len (option_map_or (λ d. insert before id (changed_to change d)) o before) ≡ len before
+alter_each before id change (Some d) is = len-insert compare_total before id (changed_to change d) ∙ ap (λ b. cond b (len before) (len before + 1)) (ap is_some is)
+alter_each before id change None is = refl
+
+pub alter_count : (before after : Stored) (id : Value) (change : Change) → after ≡ applied before id change → len after ≡ len before
+alter_count before after id change is = ap len is ∙ alter_each before id change (get before id) refl
 
 pub ok_after : {X Y : Type 0} (r : Result X Y) (P Q : Type 0) → (P → Q) → OnOk r P → OnOk r Q
 ok_after (Ok x) P Q f p = f p
@@ -132,3 +144,14 @@ first_place stashes id =
     let places : prefix_len (λ o. not (is_some o)) (waiting_of (documents_of stashes) id) ≡ prefix_len (λ (s : StashOf). not (is_some (get s.documents id))) stashes =
     prefix_of_images (λ o. not (is_some o)) (λ stash. get stash id) (documents_of stashes) ∙ prefix_of_images (λ stash. not (is_some (get stash id))) (λ (s : StashOf). s.documents) stashes in
     λ i. cond (nat_lt (sym places i) (sym lengths i)) (Some (sym places i)) None
+
+-- how many documents wait, where one of several stashes is another
+module _ (stashes : List StashOf) where
+  pub counted_at : (place : ℕ) (s s' : StashOf) → place < length stashes → s ≡ slice_index_or stashes place s
+      → stashed (documents_of (slice_set stashes place s')) + len s.documents ≡ stashed (documents_of stashes) + len s'.documents
+  counted_at place s s' within is = by stashes place within is
+    where
+      by : (ss : List StashOf) (place : ℕ) → place < length ss → s ≡ slice_index_or ss place s → stashed (documents_of (slice_set ss place s')) + len s.documents ≡ stashed (documents_of ss) + len s'.documents
+      by [] place within is = absurd (omega (arith, within))
+      by (t ∷ ts) zero within is = let here : len s.documents ≡ len t.documents = ap (λ (u : StashOf). len u.documents) is in omega (arith, here)
+      by (t ∷ ts) (suc place) within is = let rest = by ts place (omega (arith, within)) is in omega (arith, rest)

@@ -1,10 +1,11 @@
 pub mod Held
+pub mod Finding
 pub mod Rules
 pub mod Slots
 pub mod Laws
 pub mod Pools
 pub mod Writes
-pub mod Finding
 pub mod Fits
+pub mod Giving
 pub mod Upkeep
 pub mod Interleaving

@@ -6,8 +6,6 @@ mod laws;
 mod pool;
 mod rule;
 mod shelf;
-#[cfg(test)]
-mod tests;
 mod upkeep;
 
 pub use laws::rule_laws;

@@ -1,14 +1,13 @@
 ghost use Rattle.std.specs.Prelude.{◌≡◌, ◌+◌, ◌<◌, ◌≤◌, IsTrue, is_some, length, codes, false, None, Some, IfOk, OnOk, OnErr};
-ghost use Rattle.std.specs.Option.{option_map, option_copied};
-ghost use Rattle.resh_value.specs.Change.{changed, is_named};
-ghost use Rattle.resh_value.specs.Lookup.{id_of};
-ghost use Rattle.resh_chunks.specs.Chunks.{owner_of};
+ghost use Rattle.std.specs.Option.{option_map};
+ghost use Rattle.resh_value.specs.Change.{is_named};
+ghost use Rattle.resh_oplog.specs.declared.entry.What.TheVariants.{Insert, Update, Delete};
 ghost use Rattle.resh_rules.specs.Finding.{found};
+ghost use Rattle.resh_rules.specs.Fits.{Fits};
 ghost use Rattle.resh_rules.specs.Held.{with_output, with_waiting, waits};
-ghost use Rattle.resh_rules.specs.Laws.{NamesOthers};
-ghost use Rattle.resh_rules.specs.Pools.{ActsOn, held_of, pool_of};
-ghost use Rattle.resh_rules.specs.Rules.{insert_rule, change_rule, inserted, updated, deleted, refilled, first_waiting, took};
-ghost use Rattle.resh_rules.specs.Slots.{HasEffect, IsSound, set_to, changed_by, emptied};
+ghost use Rattle.resh_rules.specs.Pools.{ActsOn, SoundAfter, given, held_of, rule_in, slot_of};
+ghost use Rattle.resh_rules.specs.Rules.{donor_by, first_waiting, output_changed, refilled, waiting_changed};
+ghost use Rattle.resh_rules.specs.Slots.{IsSound};
 
 use crate::rule::{Found, Rule};
 use crate::shelf::{alter, alter_at, first_holding, put, put_at, replace, take, take_at};
@@ -26,29 +25,25 @@ pub struct Pool {
 }
 
 impl Model for Pool {
-    ghost use Rattle.resh_rules.specs.Pools.{PoolOf, pool_code, pool_of, IsPool};
+    ghost use Rattle.resh_rules.specs.Pools.{IsKept, PoolOf, Roomy, pool_code, pool_of, roomy_code, roomy_of};
 
-    ghost Value = { PoolOf };
+    ghost Value = { Roomy PoolOf };
 
-    ghost coded = { pool_code };
+    ghost coded = { roomy_code pool_code };
 
-    ghost view = { λ p. pool_of p.chunks p.output p.stashes.items };
+    ghost view = { λ p. roomy_of p.chunks p.output p.stashes.items };
 
-    ghost invariant = { λ p. IsPool (pool_of p.chunks p.output p.stashes.items) };
+    ghost invariant = { λ p. IsKept (pool_of p.chunks p.output p.stashes.items) };
 }
 
 impl Pool {
-    /// Puts a donor's inserted document: into its stash where the `_id` waits there or another donor's document is in the
-    /// output, and else into the output. It needs no memory.
+    /// Puts a donor's inserted document: into its stash where the `_id` waits there or another donor's document is in
+    /// the output, and else into the output. It needs no memory.
     pub fn insert(&mut self, donor: ShardId, id: Value, document: Document) -> Rule
-        requires donor { donor.0 < length self.old.stashes }
+        requires fits { Fits self.old.state donor.0 id (Insert document) }
         requires reserved { 0 < self.old.spare }
-        requires named { id_of document ≡ id }
-        requires owned { owner_of self.old.chunks document ≡ donor.0 }
-        ensures number { result.number ≡ insert_rule self.old.chunks donor.0 (held_of self.old id) }
-        ensures took { result.took ≡ None }
-        ensures acts { ActsOn id (inserted self.old.chunks donor.0 document) self.old self.new }
-        ensures slots { HasEffect self.old.chunks donor.0 (set_to document) (held_of self.old id) (held_of self.new id) }
+        ensures rule { result ≡ rule_in donor.0 id (Insert document) self.old.state }
+        ensures state { self.new.state ≡ given donor.0 id (Insert document) self.old.state }
         ensures spare { self.old.spare ≤ self.new.spare + 1 }
     {
         match self.found(donor, &id) {
@@ -71,15 +66,14 @@ impl Pool {
         }
     }
 
-    /// Changes a donor's document of an `_id`, where it is. Want of memory leaves all as it was.
+    /// Changes a donor's document of an `_id`, where it is. Want of memory leaves all as it was; it can't come where
+    /// the donor has no such document.
     pub fn update(&mut self, donor: ShardId, id: &Value, change: &Change) -> Result<Rule, NoMemory>
-        requires donor { donor.0 < length self.old.stashes }
-        requires others { NamesOthers self.old.chunks change.now.assign change.now.unset }
-        ensures number { IfOk result (λ rule. rule.number ≡ change_rule self.old.chunks donor.0 (held_of self.old id.now)) }
-        ensures took { IfOk result (λ rule. rule.took ≡ None) }
-        ensures acts { OnOk result (ActsOn id.now (updated self.old.chunks donor.0 change.now.assign change.now.unset) self.old self.new) }
-        ensures slots { OnOk result (HasEffect self.old.chunks donor.0 (changed_by change.now.assign change.now.unset) (held_of self.old id.now) (held_of self.new id.now)) }
+        requires fits { Fits self.old.state donor.0 id.now (Update id.now change.now) }
+        ensures rule { IfOk result (λ rule. rule ≡ rule_in donor.0 id.now (Update id.now change.now) self.old.state) }
+        ensures state { OnOk result (self.new.state ≡ given donor.0 id.now (Update id.now change.now) self.old.state) }
         ensures unchanged { OnErr result (self.new ≡ self.old) }
+        ensures wanted { OnErr result (IsTrue (is_some (slot_of donor.0 id.now self.old.state))) }
         ensures spare { self.new.spare ≡ self.old.spare }
     {
         match self.found(donor, id) {
@@ -96,14 +90,12 @@ impl Pool {
         }
     }
 
-    /// Deletes a donor's document of an `_id`, where it is. One that waits comes into the output in its place, that of the
-    /// least donor.
+    /// Deletes a donor's document of an `_id`, where it is. One that waits comes into the output in its place, that of
+    /// the least donor.
     pub fn delete(&mut self, donor: ShardId, id: &Value) -> Rule
-        requires donor { donor.0 < length self.old.stashes }
-        ensures number { result.number ≡ change_rule self.old.chunks donor.0 (held_of self.old id.now) }
-        ensures took { option_map (λ d. d.0) result.took ≡ took self.old.chunks donor.0 (held_of self.old id.now) }
-        ensures acts { ActsOn id.now (deleted self.old.chunks donor.0) self.old self.new }
-        ensures slots { HasEffect self.old.chunks donor.0 emptied (held_of self.old id.now) (held_of self.new id.now) }
+        requires { donor.0 < length self.old.state.stashes }
+        ensures rule { result ≡ rule_in donor.0 id.now (Delete id.now) self.old.state }
+        ensures state { self.new.state ≡ given donor.0 id.now (Delete id.now) self.old.state }
         ensures spare { self.old.spare ≤ self.new.spare }
     {
         match self.found(donor, id) {
@@ -121,9 +113,9 @@ impl Pool {
     }
 
     fn found(&self, donor: ShardId, id: &Value) -> Found
-        requires { donor.0 < length self.now.stashes }
-        ensures found { result ≡ found self.now.chunks donor.0 (held_of self.now id.now) }
-        ensures sound { IsSound self.now.chunks id.now (held_of self.now id.now) }
+        requires { donor.0 < length self.now.state.stashes }
+        ensures found { result ≡ found self.now.state.chunks donor.0 (held_of self.now.state id.now) }
+        ensures sound { IsSound self.now.state.chunks id.now (held_of self.now.state id.now) }
     {
         let chunks = &self.chunks;
         if self.waits(donor, id) {
@@ -142,16 +134,16 @@ impl Pool {
     }
 
     fn waits(&self, donor: ShardId, id: &Value) -> bool
-        requires { donor.0 < length self.now.stashes }
-        ensures { result ≡ is_some (waits (held_of self.now id.now) donor.0) }
+        requires { donor.0 < length self.now.state.stashes }
+        ensures { result ≡ is_some (waits (held_of self.now.state id.now) donor.0) }
     {
         self.stashes[donor.0 as usize].get(id).is_some()
     }
 
     fn put_output(&mut self, id: Value, document: Document)
         requires room { 0 < self.old.spare }
-        requires sound { IsSound self.old.chunks id (with_output (held_of self.old id) (Some document)) }
-        ensures acts { ActsOn id (λ held. with_output held (Some document)) self.old self.new }
+        requires sound { SoundAfter id (λ held. with_output held (Some document)) self.old.state }
+        ensures acts { ActsOn id (λ held. with_output held (Some document)) self.old.state self.new.state }
         ensures spare { self.old.spare ≤ self.new.spare + 1 }
     {
         put(&mut self.output, id, document);
@@ -159,8 +151,8 @@ impl Pool {
 
     fn alter_output(&mut self, id: &Value, change: &Change) -> Result<(), NoMemory>
         requires others { is_named change.now.assign change.now.unset (codes "_id") ≡ false }
-        requires sound { IsSound self.old.chunks id.now (with_output (held_of self.old id.now) (option_map (changed change.now.assign change.now.unset) (held_of self.old id.now).output)) }
-        ensures acts { OnOk result (ActsOn id.now (λ held. with_output held (option_map (changed change.now.assign change.now.unset) held.output)) self.old self.new) }
+        requires sound { SoundAfter id.now (output_changed change.now) self.old.state }
+        ensures acts { OnOk result (ActsOn id.now (output_changed change.now) self.old.state self.new.state) }
         ensures unchanged { OnErr result (self.new ≡ self.old) }
         ensures spare { self.new.spare ≡ self.old.spare }
     {
@@ -169,10 +161,10 @@ impl Pool {
     }
 
     fn alter_waiting(&mut self, donor: ShardId, id: &Value, change: &Change) -> Result<(), NoMemory>
-        requires donor { donor.0 < length self.old.stashes }
+        requires donor { donor.0 < length self.old.state.stashes }
         requires others { is_named change.now.assign change.now.unset (codes "_id") ≡ false }
-        requires sound { IsSound self.old.chunks id.now (with_waiting (held_of self.old id.now) donor.0 (option_map (changed change.now.assign change.now.unset) (waits (held_of self.old id.now) donor.0))) }
-        ensures acts { OnOk result (ActsOn id.now (λ held. with_waiting held donor.0 (option_map (changed change.now.assign change.now.unset) (waits held donor.0))) self.old self.new) }
+        requires sound { SoundAfter id.now (waiting_changed donor.0 change.now) self.old.state }
+        ensures acts { OnOk result (ActsOn id.now (waiting_changed donor.0 change.now) self.old.state self.new.state) }
         ensures unchanged { OnErr result (self.new ≡ self.old) }
         ensures spare { self.new.spare ≡ self.old.spare }
     {
@@ -181,10 +173,10 @@ impl Pool {
     }
 
     fn put_waiting(&mut self, donor: ShardId, id: Value, document: Document)
-        requires donor { donor.0 < length self.old.stashes }
+        requires donor { donor.0 < length self.old.state.stashes }
         requires room { 0 < self.old.spare }
-        requires sound { IsSound self.old.chunks id (with_waiting (held_of self.old id) donor.0 (Some document)) }
-        ensures acts { ActsOn id (λ held. with_waiting held donor.0 (Some document)) self.old self.new }
+        requires sound { SoundAfter id (λ held. with_waiting held donor.0 (Some document)) self.old.state }
+        ensures acts { ActsOn id (λ held. with_waiting held donor.0 (Some document)) self.old.state self.new.state }
         ensures spare { self.old.spare ≤ self.new.spare + 1 }
     {
         put_at(&mut self.stashes, donor.0 as usize, id, document);
@@ -192,10 +184,10 @@ impl Pool {
 
     /// Takes the document of an `_id` out of the output, and puts the one that waits at the least donor in its place.
     fn refill(&mut self, id: &Value) -> Option<ShardId>
-        requires sound { IsSound self.old.chunks id.now (refilled (held_of self.old id.now) (first_waiting (held_of self.old id.now))) }
-        requires held { IsTrue (is_some (held_of self.old id.now).output) }
-        ensures took { option_map (λ d. d.0) result ≡ first_waiting (held_of self.old id.now) }
-        ensures acts { ActsOn id.now (λ held. refilled held (first_waiting held)) self.old self.new }
+        requires sound { SoundAfter id.now (λ held. refilled held (first_waiting held)) self.old.state }
+        requires held { IsTrue (is_some (held_of self.old.state id.now).output) }
+        ensures took { result ≡ option_map donor_by (first_waiting (held_of self.old.state id.now)) }
+        ensures acts { ActsOn id.now (λ held. refilled held (first_waiting held)) self.old.state self.new.state }
         ensures spare { self.old.spare ≤ self.new.spare }
     {
         match first_holding(self.stashes.as_slice(), id) {
@@ -212,10 +204,10 @@ impl Pool {
     }
 
     fn take_waiting(&mut self, donor: ShardId, id: &Value)
-        requires donor { donor.0 < length self.old.stashes }
-        requires waits { IsTrue (is_some (waits (held_of self.old id.now) donor.0)) }
-        requires sound { IsSound self.old.chunks id.now (with_waiting (held_of self.old id.now) donor.0 None) }
-        ensures acts { ActsOn id.now (λ held. with_waiting held donor.0 None) self.old self.new }
+        requires donor { donor.0 < length self.old.state.stashes }
+        requires waits { IsTrue (is_some (waits (held_of self.old.state id.now) donor.0)) }
+        requires sound { SoundAfter id.now (λ held. with_waiting held donor.0 None) self.old.state }
+        ensures acts { ActsOn id.now (λ held. with_waiting held donor.0 None) self.old.state self.new.state }
         ensures spare { self.old.spare ≤ self.new.spare }
     {
         take_at(&mut self.stashes, donor.0 as usize, id);

@@ -1,4 +1,5 @@
 ghost use Rattle.std.specs.Prelude.{◌≡◌, None};
+ghost use Rattle.resh_rules.specs.Rules.{rule_by};
 
 use resh_value::ShardId;
 
@@ -14,8 +15,7 @@ pub struct Rule {
 impl Rule {
     /// A rule by which nothing was taken from a stash.
     pub(crate) fn met(number: u8) -> Rule
-        ensures number { result.number ≡ number }
-        ensures took { result.took ≡ None }
+        ensures { result ≡ rule_by number None }
     {
         Rule { number, took: None }
     }

@@ -1,12 +1,11 @@
 //! Writes of one document, to a stash or to one of several.
 
-ghost use Rattle.std.specs.Prelude.{◌≡◌, ◌+◌, ◌<◌, ◌≤◌, IsTrue, is_some, length, codes, false, None, Some, OnOk, OnErr, IfOk, position, map, slice_index_or};
-ghost use Rattle.std.specs.FinMap.{get};
-ghost use Rattle.resh_value.specs.Change.{changed, is_named};
+ghost use Rattle.std.specs.Prelude.{◌≡◌, ◌+◌, ◌<◌, ◌≤◌, IsTrue, is_some, length, codes, false, None, Some, OnOk, OnErr, position, map};
+ghost use Rattle.std.specs.FinMap.{get, len};
 ghost use Rattle.std.specs.Option.{option_map};
-ghost use Rattle.resh_stash.specs.Stored.{StashOf};
-ghost use Rattle.resh_rules.specs.Pools.{documents_of, spare_of, waiting_of};
-ghost use Rattle.resh_rules.specs.Writes.{HasRoomAt, IsWritten, IsWrittenAt, SparesOneLess, KeepsSpare};
+ghost use Rattle.resh_value.specs.Change.{is_named};
+ghost use Rattle.resh_rules.specs.Pools.{documents_of, waiting_of};
+ghost use Rattle.resh_rules.specs.Writes.{AltersAt, HasRoomAt, IsAltered, IsWritten, KeepsRoom, KeepsSpare, SparesOneLess, WritesAt, count_of, waits_in};
 
 use resh_stash::Stash;
 use resh_value::{Change, Document, NoMemory, Value};
@@ -16,6 +15,7 @@ pub(crate) fn put(stash: &mut Stash, id: Value, document: Document)
     requires { 0 < stash.old.spare }
     ensures written { IsWritten stash.old.documents stash.new.documents id (Some document) }
     ensures spare { stash.old.spare ≤ stash.new.spare + 1 }
+    ensures count { len stash.new.documents ≤ len stash.old.documents + 1 }
 {
     let _ = stash.insert(id, document);
 }
@@ -33,6 +33,7 @@ pub(crate) fn take(stash: &mut Stash, id: &Value) -> Option<(Value, Document)>
     ensures taken { result ≡ option_map (λ document. (id.now, document)) (get stash.old.documents id.now) }
     ensures written { IsWritten stash.old.documents stash.new.documents id.now None }
     ensures spare { stash.old.spare ≤ stash.new.spare }
+    ensures count { len stash.new.documents ≤ len stash.old.documents }
 {
     stash.remove(id)
 }
@@ -41,8 +42,9 @@ pub(crate) fn take(stash: &mut Stash, id: &Value) -> Option<(Value, Document)>
 pub(crate) fn put_at(stashes: &mut Vec<Stash>, place: usize, id: Value, document: Document)
     requires within { place < length stashes.old.items }
     requires room { HasRoomAt stashes.old.items place }
-    ensures written { IsWrittenAt (documents_of stashes.old.items) (documents_of stashes.new.items) place id (Some document) }
+    ensures written { WritesAt stashes.old.items stashes.new.items place id (Some document) }
     ensures spare { SparesOneLess stashes.old.items stashes.new.items }
+    ensures count { count_of stashes.new.items ≤ count_of stashes.old.items + 1 }
 {
     put(&mut stashes[place], id, document);
 }
@@ -50,11 +52,12 @@ pub(crate) fn put_at(stashes: &mut Vec<Stash>, place: usize, id: Value, document
 /// Takes the document of an `_id` out of one of several stashes, which holds one.
 pub(crate) fn take_at(stashes: &mut Vec<Stash>, place: usize, id: &Value) -> (Value, Document)
     requires within { place < length stashes.old.items }
-    requires held { IsTrue (is_some (slice_index_or (waiting_of (documents_of stashes.old.items) id.now) place None)) }
+    requires held { IsTrue (is_some (waits_in stashes.old.items place id.now)) }
     ensures id { result.0 ≡ id.now }
-    ensures document { slice_index_or (waiting_of (documents_of stashes.old.items) id.now) place None ≡ Some result.1 }
-    ensures written { IsWrittenAt (documents_of stashes.old.items) (documents_of stashes.new.items) place id.now None }
+    ensures document { waits_in stashes.old.items place id.now ≡ Some result.1 }
+    ensures written { WritesAt stashes.old.items stashes.new.items place id.now None }
     ensures spare { KeepsSpare stashes.old.items stashes.new.items }
+    ensures count { count_of stashes.new.items ≤ count_of stashes.old.items }
 {
     take(&mut stashes[place], id).unwrap()
 }
@@ -62,9 +65,10 @@ pub(crate) fn take_at(stashes: &mut Vec<Stash>, place: usize, id: &Value) -> (Va
 /// Changes the document of an `_id`, if it is held. Want of memory leaves all as it was.
 pub(crate) fn alter(stash: &mut Stash, id: &Value, change: &Change) -> Result<(), NoMemory>
     requires { is_named change.now.assign change.now.unset (codes "_id") ≡ false }
-    ensures written { OnOk result (IsWritten stash.old.documents stash.new.documents id.now (option_map (changed change.now.assign change.now.unset) (get stash.old.documents id.now))) }
+    ensures written { OnOk result (IsAltered stash.old.documents stash.new.documents id.now change.now) }
     ensures unchanged { OnErr result (stash.new ≡ stash.old) }
     ensures spare { stash.new.spare ≡ stash.old.spare }
+    ensures count { len stash.new.documents ≡ len stash.old.documents }
 {
     stash.apply(id, change)?;
     Ok(())
@@ -79,9 +83,9 @@ pub(crate) fn alter_at(
 ) -> Result<(), NoMemory>
     requires within { place < length stashes.old.items }
     requires others { is_named change.now.assign change.now.unset (codes "_id") ≡ false }
-    ensures written { OnOk result (IsWrittenAt (documents_of stashes.old.items) (documents_of stashes.new.items) place id.now (option_map (changed change.now.assign change.now.unset) (slice_index_or (waiting_of (documents_of stashes.old.items) id.now) place None))) }
+    ensures written { OnOk result (AltersAt stashes.old.items stashes.new.items place id.now change.now) }
     ensures unchanged { OnErr result (stashes.new.items ≡ stashes.old.items) }
-    ensures spare { (output : StashOf) → spare_of output stashes.new.items ≡ spare_of output stashes.old.items }
+    ensures room { KeepsRoom stashes.old.items stashes.new.items }
 {
     alter(&mut stashes[place], id, change)?;
     Ok(())

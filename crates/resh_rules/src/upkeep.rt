@@ -3,20 +3,21 @@
 ghost use Rattle.std.specs.Prelude.{◌≡◌, ◌≤◌, ◌^◌, ◌-◌, length, min, replicate, IfOk, OnOk, OnErr, IsOk};
 ghost use Rattle.std.specs.FinMap.{empty, values};
 ghost use Rattle.std.specs.Option.{option_copied};
-ghost use Rattle.resh_rules.specs.Pools.{documents_of, first_stashed, lesser, stashed};
-ghost use Rattle.resh_rules.specs.Upkeep.{HaveRoom, HoldsNothing, HoldsTheSame};
+ghost use Rattle.resh_value.specs.Limits.{end_of_places};
+ghost use Rattle.resh_rules.specs.Pools.{AreWhole, IsPool, cleared, documents_of, empty_pool, first_stashed, lesser, stashed};
+ghost use Rattle.resh_rules.specs.Upkeep.{HaveRoom};
 ghost use Rattle.resh_rules.specs.Writes.{KeepsSpare};
 
 use crate::pool::Pool;
 use resh_chunks::ChunkMap;
 use resh_stash::Stash;
-use resh_value::{Documents, NoMemory, Value, compare};
+use resh_value::{Documents, END_OF_PLACES, NoMemory, Value, compare};
 use std::alloc::Global;
 
 impl Pool {
     /// A pool that holds nothing, with a stash for each of so many donors.
     pub fn new(alloc: Global, chunks: ChunkMap, donors: u32) -> Result<Pool, NoMemory>
-        ensures { IfOk result (λ pool. HoldsNothing chunks donors pool) }
+        ensures { IfOk result (λ pool. pool.state ≡ empty_pool chunks donors) }
     {
         Ok(Pool {
             chunks,
@@ -25,35 +26,42 @@ impl Pool {
         })
     }
 
-    /// Makes room for so many inserts. Want of memory leaves what is held as it was; it can't come where there is the room.
+    /// Makes room for so many inserts. Want of memory leaves what is held as it was; it can't come where there is the
+    /// room.
     pub fn reserve(&mut self, n: u64) -> Result<(), NoMemory>
         ensures room { OnOk result (n ≤ self.new.spare) }
         ensures spare { self.old.spare ≤ self.new.spare }
-        ensures kept { HoldsTheSame self.old self.new }
+        ensures kept { self.new.state ≡ self.old.state }
         ensures succeeds { n ≤ self.old.spare → IsOk result }
     {
+        if END_OF_PLACES - self.stashed() < n {
+            return Err(NoMemory);
+        }
         self.output.reserve(n)?;
         reserve_all(&mut self.stashes, n)
     }
 
     /// The number of documents that wait.
     pub fn stashed(&self) -> u64
-        ensures { result ≡ min (stashed self.now.stashes) (2 ^ 64 - 1) }
+        ensures number { result ≡ stashed self.now.state.stashes }
+        ensures most { result ≤ end_of_places }
+        ensures pool { IsPool self.now.state }
     {
         count(self.stashes.as_slice())
     }
 
     /// The least `_id` of which a document waits; `None` exactly where none does.
     pub fn first_stashed(&self) -> Option<&Value>
-        ensures { option_copied result ≡ first_stashed self.now.stashes }
+        ensures { option_copied result ≡ first_stashed self.now.state.stashes }
     {
         first_of(self.stashes.as_slice())
     }
 
     /// Hands the output's documents out by `_id`; then the pool holds nothing. Want of memory leaves all as it was.
     pub fn finish(&mut self) -> Result<Documents, NoMemory>
-        ensures ok { IfOk result (λ documents. documents ≡ values self.old.output) }
-        ensures emptied { OnOk result (HoldsNothing self.old.chunks (length self.old.stashes) self.new) }
+        ensures ok { IfOk result (λ documents. documents ≡ values self.old.state.output) }
+        ensures whole { IfOk result (λ documents. AreWhole documents) }
+        ensures emptied { OnOk result (self.new.state ≡ cleared self.old.state) }
         ensures unchanged { OnErr result (self.new ≡ self.old) }
         ensures spare { self.old.spare ≤ self.new.spare }
     {
@@ -64,7 +72,7 @@ impl Pool {
 
     /// Lets all documents go.
     pub fn clear(&mut self)
-        ensures emptied { HoldsNothing self.old.chunks (length self.old.stashes) self.new }
+        ensures emptied { self.new.state ≡ cleared self.old.state }
         ensures spare { self.old.spare ≤ self.new.spare }
     {
         clear_all(&mut self.stashes);
@@ -137,39 +145,5 @@ fn lesser<'a>(first: Option<&'a Value>, second: Option<&'a Value>) -> Option<&'a
     match second {
         Some(b) if compare(a, b).is_gt() => second,
         _ => first,
-    }
-}
-
-#[cfg(test)]
-mod tests {
-    use super::*;
-    use resh_chunks::{Bound, ChunkRow, KeyPattern};
-    use resh_value::{Sequence, ShardId, Words};
-    use std::test::Fail;
-
-    // One chunk, on the first of two shards.
-    fn chunks(alloc: Global) -> Result<ChunkMap, Fail> {
-        let mut names = Sequence::new(alloc);
-        names.push(Words::of(alloc, "x")?)?;
-        let mut rows = Vec::new(alloc);
-        rows.push(ChunkRow {
-            min: Bound::Min,
-            max: Bound::Max,
-            shard: ShardId(0),
-        })?;
-        Ok(ChunkMap::new(KeyPattern::new(names)?, rows, 2)?)
-    }
-
-    #[test]
-    fn keeps_a_pool_of_nothing(rt: HostRuntime) -> Result<(), Fail> {
-        let alloc = rt.alloc();
-        let mut pool = Pool::new(alloc, chunks(alloc)?, 2)?;
-        pool.reserve(3)?;
-        assert_eq!(rt; pool.stashed(), 0);
-        assert_eq!(rt; pool.first_stashed(), None);
-        assert_eq!(rt; pool.finish()?.len(), 0);
-        pool.clear();
-        assert_eq!(rt; pool.stashed(), 0);
-        Ok(())
     }
 }

@@ -46,7 +46,8 @@ impl Stash {
         }
     }
 
-    /// Makes room for so many new documents. Want of memory leaves all as it was; it can't come where there is the room.
+    /// Makes room for so many new documents. Want of memory leaves all as it was; it can't come where there is the
+    /// room.
     pub fn reserve(&mut self, n: u64) -> Result<(), NoMemory>
         ensures room { OnOk result (n ≤ self.new.spare) }
         ensures kept { self.new.documents ≡ self.old.documents }
@@ -101,12 +102,14 @@ impl Stash {
         self.documents.get(id)
     }
 
-    /// Changes the document of an `_id`; false exactly where none is held. Want of memory leaves all as it was.
+    /// Changes the document of an `_id`; false exactly where none is held. Want of memory leaves all as it was; it
+    /// can't come where none is held.
     pub fn apply(&mut self, id: &Value, change: &Change) -> Result<bool, NoMemory>
         requires { is_named change.now.assign change.now.unset (codes "_id") ≡ false }
         ensures held { IfOk result (λ held. held ≡ contains_key self.old.documents id.now) }
-        ensures ok { OnOk result (self.new.documents ≡ applied self.old.documents id.now change.now.assign change.now.unset) }
+        ensures ok { OnOk result (self.new.documents ≡ applied self.old.documents id.now change.now) }
         ensures unchanged { OnErr result (self.new ≡ self.old) }
+        ensures wanted { OnErr result (IsTrue (contains_key self.old.documents id.now)) }
         ensures spare { self.new.spare ≡ self.old.spare }
     {
         change_held(&mut self.documents, id, change)
@@ -151,18 +154,18 @@ impl Stash {
 
 /// Puts a document in the place of the one of an `_id`, which it gives; where none is held it hands the document back.
 fn replace(
-    documents: &mut IndexMap<Value, Document>,
+    map: &mut IndexMap<Value, Document>,
     id: &Value,
     document: Document,
 ) -> Result<Document, Document>
-    ensures replaced { OnOk result (gathered documents.new.entries ≡ insert (gathered documents.old.entries) id.now document) }
-    ensures before { IfOk result (λ old. get (gathered documents.old.entries) id.now ≡ Some old) }
-    ensures missing { OnErr result (get (gathered documents.old.entries) id.now ≡ None) }
-    ensures unchanged { OnErr result (gathered documents.new.entries ≡ gathered documents.old.entries) }
+    ensures replaced { OnOk result (gathered map.new.entries ≡ insert (gathered map.old.entries) id.now document) }
+    ensures before { IfOk result (λ old. get (gathered map.old.entries) id.now ≡ Some old) }
+    ensures missing { OnErr result (get (gathered map.old.entries) id.now ≡ None) }
+    ensures unchanged { OnErr result (gathered map.new.entries ≡ gathered map.old.entries) }
     ensures handed_back { IfErr result (λ back. back ≡ document) }
-    ensures room { spare documents.new ≡ spare documents.old }
+    ensures room { spare map.new ≡ spare map.old }
 {
-    match documents.get_mut(id) {
+    match map.get_mut(id) {
         Some(held) => Ok(mem::replace(held, document)),
         None => Err(document),
     }
@@ -170,16 +173,17 @@ fn replace(
 
 /// Changes the document of an `_id`; false where none is held.
 fn change_held(
-    documents: &mut IndexMap<Value, Document>,
+    map: &mut IndexMap<Value, Document>,
     id: &Value,
     change: &Change,
 ) -> Result<bool, NoMemory>
-    ensures held { IfOk result (λ held. held ≡ contains_key (gathered documents.old.entries) id.now) }
-    ensures ok { OnOk result (gathered documents.new.entries ≡ applied (gathered documents.old.entries) id.now change.now.assign change.now.unset) }
-    ensures unchanged { OnErr result (gathered documents.new.entries ≡ gathered documents.old.entries) }
-    ensures room { spare documents.new ≡ spare documents.old }
+    ensures held { IfOk result (λ held. held ≡ contains_key (gathered map.old.entries) id.now) }
+    ensures ok { OnOk result (gathered map.new.entries ≡ applied (gathered map.old.entries) id.now change.now) }
+    ensures unchanged { OnErr result (gathered map.new.entries ≡ gathered map.old.entries) }
+    ensures wanted { OnErr result (IsTrue (contains_key (gathered map.old.entries) id.now)) }
+    ensures room { spare map.new ≡ spare map.old }
 {
-    match documents.get_mut(id) {
+    match map.get_mut(id) {
         Some(held) => {
             held.apply_change(change)?;
             Ok(true)
@@ -200,73 +204,4 @@ fn move_all(documents: &mut IndexMap<Value, Document>, list: &mut Vec<Document>)
         list.push(document).unwrap();
     }
     list.reverse();
-}
-
-#[cfg(test)]
-mod tests {
-    use super::*;
-    use resh_value::Words;
-    use std::test::Fail;
-
-    // A document with a number under `_id` and one under `n`.
-    fn document(alloc: Global, id: i64, n: i64) -> Result<Document, NoMemory> {
-        let mut document = Document::new(alloc);
-        document.put(Words::of(alloc, "_id")?, Value::Int(id))?;
-        document.put(Words::of(alloc, "n")?, Value::Int(n))?;
-        Ok(document)
-    }
-
-    // A stash of documents with these numbers under `_id`.
-    fn stash(alloc: Global, ids: &[i64]) -> Result<Stash, NoMemory> {
-        let mut stash = Stash::new(alloc);
-        stash.reserve(ids.len() as u64)?;
-        for id in ids {
-            if stash
-                .insert(Value::Int(*id), document(alloc, *id, 0)?)
-                .is_err()
-            {
-                return Err(NoMemory);
-            }
-        }
-        Ok(stash)
-    }
-
-    #[test]
-    fn puts_and_takes(rt: HostRuntime) -> Result<(), Fail> {
-        let alloc = rt.alloc();
-        let mut stash = stash(alloc, &[3, 1, 2])?;
-        assert_eq!(rt; stash.len(), 3);
-        assert_eq!(rt; stash.first(), Some(&Value::Int(1)));
-        let new = document(alloc, 1, 5)?;
-        assert_eq!(rt;
-            stash.insert(Value::Int(1), new),
-            Ok(Some(document(alloc, 1, 0)?))
-        );
-        assert_eq!(rt; stash.get(&Value::Int(1)), Some(&document(alloc, 1, 5)?));
-        let taken = stash.remove(&Value::Int(1));
-        assert_eq!(rt; taken, Some((Value::Int(1), document(alloc, 1, 5)?)));
-        assert_eq!(rt; stash.remove(&Value::Int(1)), None);
-        assert_eq!(rt; stash.first(), Some(&Value::Int(2)));
-        Ok(())
-    }
-
-    #[test]
-    fn changes_and_empties(rt: HostRuntime) -> Result<(), Fail> {
-        let alloc = rt.alloc();
-        let mut stash = stash(alloc, &[3, 1])?;
-        let mut assign = Document::new(alloc);
-        assign.put(Words::of(alloc, "n")?, Value::Int(7))?;
-        let Some(change) = Change::new(assign, Sequence::new(alloc)) else {
-            return Err(Fail::from("no change"));
-        };
-        assert_eq!(rt; stash.apply(&Value::Int(3), &change), Ok(true));
-        assert_eq!(rt; stash.apply(&Value::Int(4), &change), Ok(false));
-        let documents = stash.take_all()?;
-        let want = [document(alloc, 1, 0)?, document(alloc, 3, 7)?];
-        assert_eq!(rt; documents.as_slice(), want.as_slice());
-        assert_eq!(rt; stash.len(), 0);
-        stash.clear();
-        assert_eq!(rt; stash.first(), None);
-        Ok(())
-    }
 }

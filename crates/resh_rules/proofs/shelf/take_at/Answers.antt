@@ -1,6 +1,6 @@
 use Rattle.std.proofs.Common.{None, sym, ap, ◌∙◌, arith}
 use Rattle.std.specs.Option.{option_map}
-use Rattle.resh_rules.proofs.Writing.{as_many, image_parts, image_some, set_at, lowered_at, waits_at}
+use Rattle.resh_rules.proofs.Writing.{as_many, counted_at, image_parts, image_some, set_at, lowered_at, waits_at}
 use Rattle.resh_rules.proofs.shelf.take_at.Goals as goal
 
 pub unwrap-requires : goal.unwrap-requires
@@ -25,3 +25,8 @@ pub returns-clause-spare : goal.returns-clause-spare
 returns-clause-spare c output =
     let less = lowered_at output c.args.stashes.now.items c.args.place c.index_mut.result.now c.take.new.stash 0 c.requires.within c.index_mut.ensures.value (omega (arith, c.take.ensures.spare)) in
     omega (arith, less)
+
+pub returns-clause-count : goal.returns-clause-count
+returns-clause-count c =
+    let counted = counted_at c.args.stashes.now.items c.args.place c.index_mut.result.now c.take.new.stash c.requires.within c.index_mut.ensures.value in
+    omega (arith, counted, c.take.ensures.count)

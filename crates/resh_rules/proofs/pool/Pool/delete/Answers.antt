@@ -1,17 +1,27 @@
-use Rattle.std.proofs.Common.{None, sym, ap, subst, ◌∙◌}
-use Rattle.resh_rules.specs.Finding.{pick}
+use Rattle.std.proofs.Common.{None, length, refl, sym, ◌∙◌}
+use Rattle.resh_oplog.specs.declared.entry.What.TheVariants.{Delete}
 use Rattle.resh_rules.specs.Held.{with_waiting}
-use Rattle.resh_rules.specs.Pools.{held_of}
 use Rattle.resh_rules.specs.Rules.{first_waiting, refilled}
-use Rattle.resh_rules.specs.Slots.{IsSound}
-use Rattle.resh_rules.proofs.Pooling.{change_picks}
-use Rattle.resh_rules.proofs.Ruling.{deleted_sound}
+use Rattle.resh_rules.specs.declared.rule.Found.TheVariants.{Waiting, Nothing, Own, Others}
+use Rattle.resh_rules.proofs.Giving.{given_at, given_not, sound_at}
 use Rattle.resh_rules.proofs.pool.Pool.delete.Goals as goal
 
+pub take_waiting-requires-clause-sound : goal.take_waiting-requires-clause-sound
+take_waiting-requires-clause-sound c = sound_at c.args.self.now.state c.args.donor.0 c.args.id.now (Delete c.args.id.now) Waiting (sym c.found.ensures.found ∙ c.in-Waiting.is) c.found.ensures.sound tt
+
+pub returns-in-Waiting-clause-state : goal.returns-in-Waiting-clause-state
+returns-in-Waiting-clause-state c =
+    given_at c.args.self.now.state c.args.donor.0 c.args.id.now (Delete c.args.id.now) Waiting (sym c.found.ensures.found ∙ c.in-Waiting.is) (λ held. with_waiting held c.args.donor.0 None) _ c.take_waiting.ensures.acts refl
+
 pub refill-requires-clause-sound : goal.refill-requires-clause-sound
-refill-requires-clause-sound c =
-    let held = held_of c.args.self.now c.args.id.now in
-    let waiting = with_waiting held c.args.donor.0 None in
-    let own = refilled held (first_waiting held) in
-    subst (IsSound c.args.self.now.chunks c.args.id.now) (change_picks c.args.self.now.chunks c.args.donor.0 held waiting held held own ∙ ap (pick waiting held own held) (sym c.found.ensures.found ∙ c.in-Own.is))
-    (deleted_sound c.args.self.now.chunks c.args.id.now held c.args.donor.0 c.found.ensures.sound)
+refill-requires-clause-sound c = sound_at c.args.self.now.state c.args.donor.0 c.args.id.now (Delete c.args.id.now) Own (sym c.found.ensures.found ∙ c.in-Own.is) c.found.ensures.sound tt
+
+pub returns-in-Own-clause-state : goal.returns-in-Own-clause-state
+returns-in-Own-clause-state c =
+    given_at c.args.self.now.state c.args.donor.0 c.args.id.now (Delete c.args.id.now) Own (sym c.found.ensures.found ∙ c.in-Own.is) (λ held. refilled held (first_waiting held)) _ c.refill.ensures.acts refl
+
+pub returns-in-Nothing-clause-state : goal.returns-in-Nothing-clause-state
+returns-in-Nothing-clause-state c = given_not c.args.self.now.state c.args.donor.0 c.args.id.now (Delete c.args.id.now) Nothing (sym c.found.ensures.found ∙ c.in-Nothing.is) refl
+
+pub returns-in-Others-clause-state : goal.returns-in-Others-clause-state
+returns-in-Others-clause-state c = given_not c.args.self.now.state c.args.donor.0 c.args.id.now (Delete c.args.id.now) Others (sym c.found.ensures.found ∙ c.in-Others.is) refl

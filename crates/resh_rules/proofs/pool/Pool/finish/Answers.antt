@@ -1,18 +1,31 @@
-use Rattle.std.proofs.Common.{length, arith, refl, ap}
+use Rattle.std.proofs.Common.{length, arith, refl, sym, ap, subst, ◌∙◌}
 use Rattle.std.proofs.lemmas.List.{length-map}
+use Rattle.resh_value.specs.Limits.{end_of_places}
 use Rattle.resh_stash.specs.Stored.{StashOf}
-use Rattle.resh_rules.proofs.Upkeeping.{nothing_kept, spare_more}
-use Rattle.resh_rules.specs.Pools.{PoolOf}
+use Rattle.resh_rules.specs.Pools.{AreWhole, cleared, pool_of, spare_of}
+use Rattle.resh_rules.specs.Writes.{count_of}
+use Rattle.resh_rules.proofs.Pooling.{room_is, room_less, state_is}
+use Rattle.resh_rules.proofs.Upkeeping.{all_whole, nothing_held, nothing_kept, none_counted, spare_more}
 use Rattle.resh_rules.proofs.pool.Pool.finish.Goals as goal
 
 pub invariant_of-self-2 : goal.invariant_of-self-2
 invariant_of-self-2 c =
     let many = length-map c.self.inside.stashes.items (λ (s : StashOf). s.documents) in
-    nothing_kept c.self.inside.chunks (length c.self.inside.stashes.items) _ (record { chunks = refl; output = c.in_ok-documents.ensures.emptied; stashes = c.clear_all.ensures.emptied }) (omega (arith, many, c.self.invariant.few))
+    nothing_kept c.self.inside.chunks (length c.self.inside.stashes.items) _ refl c.in_ok-documents.ensures.emptied c.clear_all.ensures.emptied (omega (arith, many, c.self.invariant.pool.few))
+
+pub returns-clause-emptied : goal.returns-clause-emptied
+returns-clause-emptied c =
+    nothing_held c.self.inside.chunks c.self.inside.stashes.items c.self.inside.output c.take_all.new.self c.clear_all.new.stashes.items c.in_ok-documents.ensures.emptied c.clear_all.ensures.emptied
+    ∙ ap cleared (state_is c.self.inside.chunks c.self.inside.output c.self.inside.stashes.items c.args.self.now c.self.view_is)
 
 pub returns-clause-spare : goal.returns-clause-spare
 returns-clause-spare c =
-    let before = ap (λ (p : PoolOf). p.spare) c.self.view_is in
+    let room = room_is c.self.inside.chunks c.self.inside.output c.self.inside.stashes.items c.args.self.now c.self.view_is in
     let stashes = c.clear_all.ensures.spare c.self.inside.output in
     let output = spare_more c.self.inside.output c.take_all.new.self c.clear_all.new.stashes.items c.take_all.ensures.spare in
-    omega (arith, before, stashes, output)
+    let none = none_counted c.clear_all.new.stashes.items (length c.self.inside.stashes.items) c.clear_all.ensures.emptied in
+    let left = room_less end_of_places (spare_of c.self.inside.output c.self.inside.stashes.items) (spare_of c.take_all.new.self c.clear_all.new.stashes.items) (count_of c.self.inside.stashes.items) (count_of c.clear_all.new.stashes.items) 0 (omega (arith, stashes, output)) (omega (arith, none)) in
+    omega (arith, room, left)
+
+pub returns-clause-whole : goal.returns-clause-whole
+returns-clause-whole c = subst AreWhole (sym c.in_ok-documents.ensures.ok) (all_whole (pool_of c.self.inside.chunks c.self.inside.output c.self.inside.stashes.items) c.self.invariant.pool)

@@ -1,30 +1,37 @@
-use Rattle.std.proofs.Common.{◌≡◌, Some, ap, sym, subst, arith}
-use Rattle.resh_rules.specs.Held.{with_output}
-use Rattle.resh_rules.specs.Pools.{ActsOn, PoolOf, held_of, pool_of, spare_of}
-use Rattle.resh_rules.specs.Slots.{IsSound}
-use Rattle.resh_rules.proofs.Pooling.{output_acts, stays_pool}
+use Rattle.std.proofs.Common.{Some, arith}
+use Rattle.resh_value.specs.Limits.{end_of_places}
+use Rattle.resh_rules.specs.Held.{Held, with_output}
+use Rattle.resh_rules.specs.Pools.{pool_of, spare_of}
+use Rattle.resh_rules.specs.Writes.{count_of}
+use Rattle.resh_rules.proofs.Giving.{stays_pool}
+use Rattle.resh_rules.proofs.Pooling.{acted, output_acts, room_is, room_less, sound_inside}
 use Rattle.resh_rules.proofs.Writing.{least_output, lowered_output}
 use Rattle.resh_rules.proofs.pool.Pool.put_output.Goals as goal
 
 pub put-requires : goal.put-requires
 put-requires c =
-    let spare : spare_of c.self.inside.output c.self.inside.stashes.items ≡ c.args.self.now.spare = ap (λ (p : PoolOf). p.spare) c.self.view_is in
+    let room = room_is c.self.inside.chunks c.self.inside.output c.self.inside.stashes.items c.args.self.now c.self.view_is in
     let least = least_output c.self.inside.output c.self.inside.stashes.items in
-    omega (arith, spare, least, c.requires.room)
+    omega (arith, room, least, c.requires.room)
 
 pub invariant_of-self : goal.invariant_of-self
 invariant_of-self c =
-    stays_pool c.args.id (λ held. with_output held (Some c.args.document)) (pool_of c.self.inside.chunks c.self.inside.output c.self.inside.stashes.items) _ c.self.invariant
-    (output_acts c.self.inside.chunks c.args.id (Some c.args.document) c.self.inside.output c.put.new.stash c.self.inside.stashes.items c.put.ensures.written)
-    (subst (λ (p : PoolOf). IsSound p.chunks c.args.id (with_output (held_of p c.args.id) (Some c.args.document))) (sym c.self.view_is) c.requires.sound)
+    let step : Held → Held = λ held. with_output held (Some c.args.document) in
+    record {
+      pool = stays_pool c.args.id step (pool_of c.self.inside.chunks c.self.inside.output c.self.inside.stashes.items) _ c.self.invariant.pool
+          (output_acts c.self.inside.chunks c.args.id (Some c.args.document) c.self.inside.output c.put.new.stash c.self.inside.stashes.items c.put.ensures.written)
+          (sound_inside c.self.inside.chunks c.self.inside.output c.self.inside.stashes.items c.args.self.now c.self.view_is c.args.id step c.requires.sound);
+      count = c.self.invariant.count;
+    }
 
 pub returns-clause-acts : goal.returns-clause-acts
 returns-clause-acts c =
-    subst (λ (p : PoolOf). ActsOn c.args.id (λ held. with_output held (Some c.args.document)) p (pool_of c.self.inside.chunks c.put.new.stash c.self.inside.stashes.items)) c.self.view_is
+    acted c.self.inside.chunks c.self.inside.output c.self.inside.stashes.items c.args.self.now c.self.view_is c.args.id (λ held. with_output held (Some c.args.document)) _
     (output_acts c.self.inside.chunks c.args.id (Some c.args.document) c.self.inside.output c.put.new.stash c.self.inside.stashes.items c.put.ensures.written)
 
 pub returns-clause-spare : goal.returns-clause-spare
 returns-clause-spare c =
-    let spare : spare_of c.self.inside.output c.self.inside.stashes.items ≡ c.args.self.now.spare = ap (λ (p : PoolOf). p.spare) c.self.view_is in
+    let room = room_is c.self.inside.chunks c.self.inside.output c.self.inside.stashes.items c.args.self.now c.self.view_is in
     let less = lowered_output c.self.inside.output c.put.new.stash c.self.inside.stashes.items 1 c.put.ensures.spare in
-    omega (arith, spare, less)
+    let left = room_less end_of_places (spare_of c.self.inside.output c.self.inside.stashes.items) (spare_of c.put.new.stash c.self.inside.stashes.items) (count_of c.self.inside.stashes.items) (count_of c.self.inside.stashes.items) 1 less (omega arith) in
+    omega (arith, room, left)

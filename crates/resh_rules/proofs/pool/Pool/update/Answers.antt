@@ -1,47 +1,38 @@
-use Rattle.std.proofs.Common.{sym, ap, subst, ◌∙◌}
-use Rattle.std.specs.Option.{option_map}
-use Rattle.resh_value.specs.Change.{changed}
-use Rattle.resh_rules.specs.Finding.{pick}
-use Rattle.resh_rules.specs.Held.{waits, with_output, with_waiting}
+use Rattle.std.proofs.Common.{refl, sym, ◌∙◌}
+use Rattle.std.proofs.lemmas.Result.{MatchResult-from_err}
+use Rattle.resh_oplog.specs.declared.entry.What.TheVariants.{Update}
 use Rattle.resh_rules.specs.Pools.{held_of}
-use Rattle.resh_rules.specs.Slots.{HasEffect, IsSound, changed_by}
-use Rattle.resh_rules.proofs.Pooling.{change_picks}
-use Rattle.resh_rules.proofs.Ruling.{updated_effect, updated_sound}
-use Rattle.resh_rules.proofs.Unnamed.{id_stays, owner_stays}
+use Rattle.resh_rules.specs.Rules.{output_changed, waiting_changed}
+use Rattle.resh_rules.specs.declared.rule.Found.TheVariants.{Waiting, Nothing, Own, Others}
+use Rattle.resh_rules.proofs.Giving.{filled_by, given_at, given_not, may_come, sound_at}
 use Rattle.resh_rules.proofs.pool.Pool.update.Goals as goal
 
 pub alter_waiting-requires-clause-sound : goal.alter_waiting-requires-clause-sound
 alter_waiting-requires-clause-sound c =
-    let chunks = c.args.self.now.chunks in
-    let assign = c.args.change.now.assign in
-    let unset = c.args.change.now.unset in
-    let held = held_of c.args.self.now c.args.id.now in
-    let waiting = with_waiting held c.args.donor.0 (option_map (changed assign unset) (waits held c.args.donor.0)) in
-    let own = with_output held (option_map (changed assign unset) held.output) in
-    let picked = change_picks chunks c.args.donor.0 held waiting held held own ∙ ap (pick waiting held own held) (sym c.found.ensures.found ∙ c.in-Waiting.is) in
-    subst (IsSound chunks c.args.id.now) picked
-    (updated_sound chunks c.args.id.now held c.args.donor.0 assign unset c.found.ensures.sound (λ d. id_stays assign unset d c.requires.others.id) (λ d. owner_stays chunks assign unset d c.requires.others.key))
+    sound_at c.args.self.now.state c.args.donor.0 c.args.id.now (Update c.args.id.now c.args.change.now) Waiting (sym c.found.ensures.found ∙ c.in-Waiting.is) c.found.ensures.sound (may_come c.args.self.now.state c.args.donor.0 c.args.id.now (Update c.args.id.now c.args.change.now) c.requires.fits)
+
+pub returns-in_ok-alter_waiting-in-Waiting-clause-state : goal.returns-in_ok-alter_waiting-in-Waiting-clause-state
+returns-in_ok-alter_waiting-in-Waiting-clause-state c =
+    given_at c.args.self.now.state c.args.donor.0 c.args.id.now (Update c.args.id.now c.args.change.now) Waiting (sym c.found.ensures.found ∙ c.in-Waiting.is) (waiting_changed c.args.donor.0 c.args.change.now) _ c.in_ok-alter_waiting-in-Waiting.ensures.acts refl
+
+pub returns-in_err-alter_waiting-in-Waiting-clause-wanted : goal.returns-in_err-alter_waiting-in-Waiting-clause-wanted
+returns-in_err-alter_waiting-in-Waiting-clause-wanted c =
+    MatchResult-from_err c.from_residual.result _ _ c.from_residual.ensures.0 (λ _. filled_by c.args.self.now.state.chunks c.args.donor.0 (held_of c.args.self.now.state c.args.id.now) Waiting (sym c.found.ensures.found ∙ c.in-Waiting.is) refl)
 
 pub alter_output-requires-clause-sound : goal.alter_output-requires-clause-sound
 alter_output-requires-clause-sound c =
-    let chunks = c.args.self.now.chunks in
-    let assign = c.args.change.now.assign in
-    let unset = c.args.change.now.unset in
-    let held = held_of c.args.self.now c.args.id.now in
-    let waiting = with_waiting held c.args.donor.0 (option_map (changed assign unset) (waits held c.args.donor.0)) in
-    let own = with_output held (option_map (changed assign unset) held.output) in
-    let picked = change_picks chunks c.args.donor.0 held waiting held held own ∙ ap (pick waiting held own held) (sym c.found.ensures.found ∙ c.in-Own.is) in
-    subst (IsSound chunks c.args.id.now) picked
-    (updated_sound chunks c.args.id.now held c.args.donor.0 assign unset c.found.ensures.sound (λ d. id_stays assign unset d c.requires.others.id) (λ d. owner_stays chunks assign unset d c.requires.others.key))
+    sound_at c.args.self.now.state c.args.donor.0 c.args.id.now (Update c.args.id.now c.args.change.now) Own (sym c.found.ensures.found ∙ c.in-Own.is) c.found.ensures.sound (may_come c.args.self.now.state c.args.donor.0 c.args.id.now (Update c.args.id.now c.args.change.now) c.requires.fits)
 
-pub returns-in_ok-alter_output-in-Own-clause-slots : goal.returns-in_ok-alter_output-in-Own-clause-slots
-returns-in_ok-alter_output-in-Own-clause-slots c =
-    let chunks = c.args.self.now.chunks in
-    let assign = c.args.change.now.assign in
-    let unset = c.args.change.now.unset in
-    let held = held_of c.args.self.now c.args.id.now in
-    let waiting = with_waiting held c.args.donor.0 (option_map (changed assign unset) (waits held c.args.donor.0)) in
-    let own = with_output held (option_map (changed assign unset) held.output) in
-    let picked = change_picks chunks c.args.donor.0 held waiting held held own ∙ ap (pick waiting held own held) (sym c.found.ensures.found ∙ c.in-Own.is) in
-    subst (HasEffect chunks c.args.donor.0 (changed_by assign unset) held) (picked ∙ sym c.in_ok-alter_output-in-Own.ensures.acts.here)
-    (updated_effect chunks c.args.id.now held c.args.donor.0 assign unset c.found.ensures.sound (λ d. owner_stays chunks assign unset d c.requires.others.key))
+pub returns-in_ok-alter_output-in-Own-clause-state : goal.returns-in_ok-alter_output-in-Own-clause-state
+returns-in_ok-alter_output-in-Own-clause-state c =
+    given_at c.args.self.now.state c.args.donor.0 c.args.id.now (Update c.args.id.now c.args.change.now) Own (sym c.found.ensures.found ∙ c.in-Own.is) (output_changed c.args.change.now) _ c.in_ok-alter_output-in-Own.ensures.acts refl
+
+pub returns-in_err-alter_output-in-Own-clause-wanted : goal.returns-in_err-alter_output-in-Own-clause-wanted
+returns-in_err-alter_output-in-Own-clause-wanted c =
+    MatchResult-from_err c.from_residual-in_err-alter_output-in-Own.result _ _ c.from_residual-in_err-alter_output-in-Own.ensures.0 (λ _. filled_by c.args.self.now.state.chunks c.args.donor.0 (held_of c.args.self.now.state c.args.id.now) Own (sym c.found.ensures.found ∙ c.in-Own.is) refl)
+
+pub returns-in-Nothing-clause-state : goal.returns-in-Nothing-clause-state
+returns-in-Nothing-clause-state c = given_not c.args.self.now.state c.args.donor.0 c.args.id.now (Update c.args.id.now c.args.change.now) Nothing (sym c.found.ensures.found ∙ c.in-Nothing.is) refl
+
+pub returns-in-Others-clause-state : goal.returns-in-Others-clause-state
+returns-in-Others-clause-state c = given_not c.args.self.now.state c.args.donor.0 c.args.id.now (Update c.args.id.now c.args.change.now) Others (sym c.found.ensures.found ∙ c.in-Others.is) refl
