@@ -4,6 +4,8 @@
 #[cfg(test)]
 mod examples;
 #[cfg(test)]
+mod feed;
+#[cfg(test)]
 mod lane;
 #[cfg(test)]
 mod oplog;
