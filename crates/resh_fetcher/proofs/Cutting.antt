@@ -4,7 +4,8 @@ use Rattle.std.proofs.lemmas.Bool.{ltb-false}
 use Rattle.std.proofs.lemmas.List.{take_all}
 use Rattle.std.proofs.Math.Seq.{take-length}
 use Rattle.std.proofs.Math.Dec.{ltb}
-use Rattle.std.specs.List.{position_or_len}
+use Rattle.std.proofs.lemmas.List.Elements.{All-from_recursion, recursion_from_All}
+use Rattle.std.specs.List.{All, AllByRecursion, position_or_len}
 use Rattle.resh_oplog.specs.declared.entry.Entry.{Entry}
 use Rattle.resh_feed.specs.Items.{is_final, up_to_final}
 
@@ -43,3 +44,15 @@ fewer false es rest h = h
 pub cut_fewer : (es : List Entry) → length (up_to_final es) ≤ length es
 cut_fewer [] = omega arith
 cut_fewer (e ∷ es) = let rest = fewer (is_final e.what) (up_to_final es) es (cut_fewer es) in omega (arith, rest)
+
+cut_all : (P : Entry → Type 0) (es : List Entry) → AllByRecursion P es → AllByRecursion P (up_to_final es)
+cut_all P [] h = tt
+cut_all P (e ∷ es) h = (h.0, by (is_final e.what) (cut_all P es h.1))
+  where
+    by : (final : Bool) → AllByRecursion P (up_to_final es) → AllByRecursion P (cond final [] (up_to_final es))
+    by true rest = tt
+    by false rest = rest
+
+-- what holds of each entry holds of each that is left
+pub cut_keeps : (P : Entry → Type 0) (es : List Entry) → All P es → All P (up_to_final es)
+cut_keeps P es h = All-from_recursion P (up_to_final es) (cut_all P es (recursion_from_All P es h))

@@ -1,1 +1,5 @@
 mod Cutting
+mod ItemLists
+mod Standing
+mod StandsOn
+mod Testing

@@ -1,1 +1,4 @@
+pub mod Conditions
+pub mod Laws
 pub mod Links
+pub mod Standing

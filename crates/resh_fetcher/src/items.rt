@@ -1,10 +1,10 @@
 //! Lists of items.
 
 ghost use Rattle.std.specs.Prelude.{◌≡◌, ◌≤◌, map, take, drop, length, IfOk};
-ghost use Rattle.resh_value.specs.Lookup.{id_of};
 ghost use Rattle.resh_feed.specs.Items.{cloned_item, fetched_item, has_final, last_id_of, last_mark_of, past_all, up_to_final};
 
 use crate::batch::Whats;
+use crate::state::FeedItems;
 use resh_feed::{After, Item, Reading};
 use resh_oplog::{Entries, Entry, What};
 use resh_stamp::Mark;
@@ -16,17 +16,8 @@ pub(crate) fn last_id_of(alloc: Global, documents: &[Document]) -> Result<Option
     ensures { IfOk result (λ id. id ≡ last_id_of documents.now) }
 {
     match documents {
-        [.., document] => Ok(Some(copy_id(alloc, document)?)),
+        [.., document] => Ok(Some(document.copy_id(alloc)?)),
         [] => Ok(None),
-    }
-}
-
-fn copy_id(alloc: Global, document: &Document) -> Result<Value, NoMemory>
-    ensures { IfOk result (λ id. id ≡ id_of document.now) }
-{
-    match document.id() {
-        Some(id) => id.copy(alloc),
-        None => Ok(Value::Null),
     }
 }
 
@@ -37,7 +28,7 @@ pub(crate) fn cloned_items(alloc: Global, documents: Documents) -> Result<Vec<It
     let documents = documents.into_vec();
     let mut items = Vec::with_capacity(alloc, documents.len())?;
     for document in documents {
-        let id = copy_id(alloc, &document)?;
+        let id = document.copy_id(alloc)?;
         items.push(Item {
             what: What::Insert(document),
             after: After::ById(id),
@@ -111,15 +102,16 @@ pub(crate) fn first_whats(alloc: Global, items: &[Item], most: u32) -> Result<Wh
     Ok(Sequence::from_vec(whats))
 }
 
-/// Takes the first items out, and gives how far the feed is read behind them.
-pub(crate) fn take_first(buffer: &mut Vec<Item>, count: usize, start: Reading) -> Reading
-    requires { count ≤ length buffer.old.items }
-    ensures reading { result ≡ past_all start (take count buffer.old.items) }
-    ensures rest { buffer.new.items ≡ drop count buffer.old.items }
+/// How far the feed is read behind the first items, and the items behind them.
+pub(crate) fn take_first(buffer: FeedItems, count: u64, start: Reading) -> (Reading, FeedItems)
+    requires { count ≤ length buffer }
+    ensures reading { result.0 ≡ past_all start (take count buffer) }
+    ensures rest { result.1 ≡ drop count buffer }
 {
+    let mut buffer = buffer.into_vec();
     let mut reading = start;
-    for item in buffer.drain(..count) {
+    for item in buffer.drain(..count as usize) {
         reading = reading.past(item);
     }
-    reading
+    (reading, Sequence::from_vec(buffer))
 }

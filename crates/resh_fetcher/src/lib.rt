@@ -3,13 +3,14 @@
 
 mod batch;
 mod fetched;
-mod item;
 mod items;
+mod laws;
 mod link;
-#[cfg(test)]
-mod tests;
+mod readers;
+mod state;
 
 pub use batch::{Batch, Whats};
 pub use fetched::Fetched;
-pub use item::Out;
+pub use laws::link_laws;
 pub use link::Link;
+pub use state::{FeedItems, LinkState, Out};

@@ -1,61 +1,47 @@
-ghost use Rattle.std.specs.Prelude.{◌≡◌, ◌+◌, ◌<◌, ◌≤◌, true, false, None, is_some, length, IfOk, OnOk, OnErr, slice_get};
+ghost use Rattle.std.specs.Prelude.{◌≡◌, ◌+◌, ◌<◌, ◌≤◌, true, false, is_ok, nat_lt, length, IfOk, OnOk, OnErr};
 ghost use Rattle.std.specs.List.{All};
-ghost use Rattle.std.specs.Option.{option_copied, option_map};
-ghost use Rattle.resh_value.specs.Lookup.{has_id};
-ghost use Rattle.resh_oplog.specs.Logs.{is_whole};
-ghost use Rattle.resh_feed.specs.Items.{AreWhole, up_to_final};
-ghost use Rattle.resh_fetcher.specs.Links.{batch_kept, closed, cut, end_of_places, ends, failed, fresh, gone_back, is_cloned, last_id, mark_read, next_entries, sent_out, started, told_of, with_cloned, with_fetched, with_items};
+ghost use Rattle.resh_value.specs.Limits.{end_of_places};
+ghost use Rattle.resh_value.specs.Whole as value;
+ghost use Rattle.resh_oplog.specs.Logs.{is_whole, AreWhole};
+ghost use Rattle.resh_feed.specs.Items as feed;
+ghost use Rattle.resh_feed.specs.Items.{up_to_final};
+ghost use Rattle.resh_fetcher.specs.Conditions.{may_clone, may_cut, may_fetch, may_keep};
+ghost use Rattle.resh_fetcher.specs.Links.{batch_kept, closed, cut, failed, fresh, gone_back, mark_read, next_entries, out_end, sent_out, started, told_of, with_cloned, with_fetched, with_items};
 
 use crate::batch::Batch;
 use crate::fetched::Fetched;
-use crate::item::Out;
 use crate::items::{
     cloned_items, cut_behind_final, fetched_items, first_whats, has_final, last_id_of,
     last_mark_of, take_first,
 };
+use crate::state::{LinkState, Out};
 use resh_feed::{Item, Reading};
-use resh_oplog::{Cloned, Entries, Log, What};
-use resh_progress::{Counts, Kept, Progress};
+use resh_oplog::{Cloned, Entries, Log};
+use resh_progress::{Counts, Progress};
 use resh_stamp::{Mark, Stamp};
-use resh_value::{NoMemory, Sequence, ShardId, Value};
+use resh_value::{END_OF_PLACES, NoMemory, Sequence, ShardId};
 use std::alloc::Global;
 use std::marker::Model;
+use std::mem;
 
-// Places stay below this.
-const END_OF_PLACES: u64 = 1 << 62;
-
-/// A recipient's link to a donor. Its places count the items of the donor's feed for the recipient, from 0.
+/// A recipient's link to a donor.
 #[derive(Debug, Drop)]
 pub struct Link {
-    recipient: ShardId,
-    donor: ShardId,
-    lanes: u32,
-    batch: u32,
-    started: bool,
-    // 0 before it is started.
-    fetch_time: u64,
-    opened: bool,
-    failed: bool,
-    kept: Kept,
-    out: Option<Out>,
-    buffer: Vec<Item>,
-    clones: u64,
-    reading: Reading,
-    read_out: bool,
-    near: bool,
-    crashes: u32,
+    alloc: Global,
+    pub(crate) state: LinkState,
 }
 
 impl Model for Link {
-    ghost use Rattle.resh_fetcher.specs.Links.{LinkOf, link_code, IsLink};
+    ghost use Rattle.resh_fetcher.specs.contracts.state.LinkState as link;
+    ghost use Rattle.resh_fetcher.specs.Links.{LinkOf, IsLink};
 
     ghost Value = { LinkOf };
 
-    ghost coded = { link_code };
+    ghost coded = { link.the_row.coded };
 
-    ghost view = { λ l. record { recipient = l.recipient; donor = l.donor; lanes = l.lanes; batch = l.batch; started = l.started; fetch_time = l.fetch_time; is_open = l.opened; failed = l.failed; kept = l.kept; out = l.out; buffer = l.buffer.items; clones = l.clones; reading = l.reading; read_out = l.read_out; near = l.near; crashes = l.crashes } };
+    ghost view = { λ l. l.state };
 
-    ghost invariant = { λ l. IsLink l.lanes l.kept l.out l.buffer.items l.clones };
+    ghost invariant = { λ l. IsLink l.state };
 }
 
 impl Link {
@@ -72,18 +58,18 @@ impl Link {
         ensures { IfOk result (λ link. link ≡ fresh recipient donor lanes batch) }
     {
         let progress = Progress::new(alloc, lanes)?;
-        Ok(Link {
+        let state = LinkState {
             recipient,
             donor,
             lanes,
             batch,
             started: false,
             fetch_time: 0,
-            opened: false,
+            is_open: false,
             failed: false,
             kept: progress.resume().copy(alloc)?,
             out: None,
-            buffer: Vec::new(alloc),
+            buffer: Sequence::new(alloc),
             clones: 0,
             reading: Reading {
                 last_id: None,
@@ -93,7 +79,8 @@ impl Link {
             read_out: false,
             near: false,
             crashes: 0,
-        })
+        };
+        Ok(Link { alloc, state })
     }
 
     /// Starts it: reading begins at the fetch time.
@@ -101,220 +88,83 @@ impl Link {
         requires { self.old.started ≡ false }
         ensures { self.new ≡ started self.old fetch_time }
     {
-        self.started = true;
-        self.fetch_time = fetch_time;
-        self.opened = true;
+        self.state.started = true;
+        self.state.fetch_time = fetch_time;
+        self.state.is_open = true;
     }
 
     pub fn close(&mut self)
         ensures { self.new ≡ closed self.old }
     {
-        self.opened = false;
+        self.state.is_open = false;
     }
 
     pub fn fail(&mut self)
         ensures { self.new ≡ failed self.old }
     {
-        self.opened = false;
-        self.failed = true;
-    }
-
-    pub fn recipient(&self) -> ShardId
-        ensures { result ≡ self.now.recipient }
-    {
-        self.recipient
-    }
-
-    pub fn donor(&self) -> ShardId
-        ensures { result ≡ self.now.donor }
-    {
-        self.donor
-    }
-
-    pub fn is_started(&self) -> bool
-        ensures { result ≡ self.now.started }
-    {
-        self.started
-    }
-
-    pub fn fetch_time(&self) -> u64
-        requires { self.now.started ≡ true }
-        ensures { result ≡ self.now.fetch_time }
-    {
-        self.fetch_time
-    }
-
-    pub fn is_open(&self) -> bool
-        ensures { result ≡ self.now.is_open }
-    {
-        self.opened
-    }
-
-    pub fn has_failed(&self) -> bool
-        ensures { result ≡ self.now.failed }
-    {
-        self.failed
-    }
-
-    /// The record to which it goes back.
-    pub fn kept(&self) -> &Kept
-        ensures kept { result.now ≡ self.now.kept }
-        ensures lanes { length result.now.lanes ≡ self.now.lanes }
-    {
-        &self.kept
-    }
-
-    /// Whether the feed's last entry is kept.
-    pub fn finished(&self) -> bool
-        ensures { result ≡ self.now.kept.finished }
-    {
-        self.kept.finished
-    }
-
-    /// The place behind the batch that is out; `None` exactly where none is.
-    pub fn batch_end(&self) -> Option<u64>
-        ensures { result ≡ option_map (λ out. out.place) self.now.out }
-    {
-        match &self.out {
-            Some(out) => Some(out.place),
-            None => None,
-        }
-    }
-
-    /// Each lane's position at the end of the batch that is out, and the kept one where none is.
-    pub fn ends(&self) -> &Counts
-        ensures ends { result.now ≡ ends self.now }
-        ensures lanes { length result.now ≡ self.now.lanes }
-    {
-        match &self.out {
-            Some(out) => &out.lanes,
-            None => &self.kept.lanes,
-        }
-    }
-
-    /// How many items were got and aren't in a batch.
-    pub fn buffered(&self) -> u64
-        ensures { result ≡ length self.now.buffer }
-    {
-        self.buffer.len() as u64
-    }
-
-    /// The buffer's item at a place, counted from 0.
-    pub fn item(&self, n: u64) -> Option<&What>
-        ensures { option_copied result ≡ option_map (λ item. item.what) (slice_get self.now.buffer n) }
-    {
-        match self.buffer.get(n as usize) {
-            Some(item) => Some(&item.what),
-            None => None,
-        }
-    }
-
-    /// The `_id` of the last clone item that was got.
-    pub fn last_id(&self) -> Option<&Value>
-        ensures { option_copied result ≡ last_id self.now }
-    {
-        match &self.reading.last_id {
-            Some(id) => Some(id),
-            None => self.kept.last_id.as_ref(),
-        }
-    }
-
-    /// Whether the clone part was read to its end.
-    pub fn read_out(&self) -> bool
-        ensures { result ≡ self.now.read_out }
-    {
-        self.read_out
-    }
-
-    /// Whether no clone item is left: none comes, none is in the buffer or in a batch that is out.
-    pub fn cloned(&self) -> bool
-        ensures { result ≡ is_cloned self.now }
-    {
-        self.read_out && self.clones <= self.kept.place
-    }
-
-    /// Whether the last fetch brought fewer entries than it might.
-    pub fn near(&self) -> bool
-        ensures { result ≡ self.now.near }
-    {
-        self.near
-    }
-
-    /// Whether the feed's last entry was got.
-    pub fn ended(&self) -> bool
-        ensures { result ≡ self.now.reading.finished }
-    {
-        self.reading.finished
-    }
-
-    /// How often it went back; it stays at the greatest number.
-    pub fn crashes(&self) -> u32
-        ensures { result ≡ self.now.crashes }
-    {
-        self.crashes
+        self.state.is_open = false;
+        self.state.failed = true;
     }
 
     /// Puts documents that stood at the fetch time into the buffer, as inserts, and gives their number. Want of memory
     /// leaves all as it was.
     pub fn take_cloned(&mut self, cloned: Cloned) -> Result<u32, NoMemory>
-        requires is_open { self.old.is_open ≡ true }
-        requires reading { self.old.read_out ≡ false }
+        requires may { may_clone self.old ≡ true }
         requires most { length cloned.documents ≤ self.old.batch }
-        requires whole { All (λ document. has_id document ≡ true) cloned.documents }
+        requires whole { All (λ document. value.is_whole document ≡ true) cloned.documents }
         ensures ok { OnOk result (self.new ≡ with_cloned self.old cloned.documents cloned.end) }
         ensures count { IfOk result (λ n. n ≡ length cloned.documents) }
         ensures unchanged { OnErr result (self.new ≡ self.old) }
     {
-        let alloc = *self.buffer.allocator();
         let Cloned { documents, end } = cloned;
-        let count = documents.len();
-        let clones = sum(self.clones, count)?;
-        let last_id = last_id_of(alloc, documents.as_slice())?;
-        let items = cloned_items(alloc, documents)?;
+        let count = count_within(documents.len(), self.state.batch);
+        let clones = sum(self.state.clones, count as u64)?;
+        let last_id = last_id_of(self.alloc, documents.as_slice())?;
+        let items = cloned_items(self.alloc, documents)?;
         self.put(items)?;
-        self.clones = clones;
-        self.read_out = end;
+        self.state.clones = clones;
+        self.state.read_out = end;
         if last_id.is_some() {
-            self.reading.last_id = last_id;
+            self.state.reading.last_id = last_id;
         }
-        Ok(count as u32)
+        Ok(count)
     }
 
     /// The log's entries that come next, up to a final one.
     pub fn fetch(&self, log: &Log) -> Result<Entries, NoMemory>
-        requires is_open { self.now.is_open ≡ true }
-        requires read_out { self.now.read_out ≡ true }
-        requires going { self.now.reading.finished ≡ false }
+        requires may { may_fetch self.now ≡ true }
         ensures next { IfOk result (λ entries. entries ≡ next_entries self.now log.now.entries) }
         ensures most { IfOk result (λ entries. length entries ≤ self.now.batch) }
+        ensures whole { IfOk result (λ entries. AreWhole entries) }
         ensures last { IfOk result (λ entries. up_to_final entries ≡ entries) }
     {
-        let entries = log.after(Some(self.mark_read()), self.recipient, self.batch)?;
+        let entries = log.after(
+            Some(self.mark_read()),
+            self.state.recipient,
+            self.state.batch,
+        )?;
         Ok(cut_behind_final(entries))
     }
 
     /// Puts log entries into the buffer. Want of memory leaves all as it was.
     pub fn take_fetched(&mut self, entries: Entries) -> Result<Fetched, NoMemory>
-        requires is_open { self.old.is_open ≡ true }
-        requires read_out { self.old.read_out ≡ true }
-        requires going { self.old.reading.finished ≡ false }
+        requires may { may_fetch self.old ≡ true }
         requires most { length entries ≤ self.old.batch }
-        requires whole { All (λ entry. is_whole entry.what ≡ true) entries }
+        requires whole { AreWhole entries }
         requires last { up_to_final entries ≡ entries }
         ensures ok { OnOk result (self.new ≡ with_fetched self.old entries) }
         ensures told { IfOk result (λ fetched. fetched ≡ told_of entries) }
         ensures unchanged { OnErr result (self.new ≡ self.old) }
     {
-        let alloc = *self.buffer.allocator();
-        let n = entries.len() as u32;
+        let n = count_within(entries.len(), self.state.batch);
         let mark = last_mark_of(entries.as_slice());
         let last = has_final(entries.as_slice());
-        let items = fetched_items(alloc, entries)?;
+        let items = fetched_items(self.alloc, entries)?;
         self.put(items)?;
-        self.near = n < self.batch;
-        self.reading.finished = last;
+        self.state.near = n < self.state.batch;
+        self.state.reading.finished = last;
         if mark.is_some() {
-            self.reading.mark = mark;
+            self.state.reading.mark = mark;
         }
         if n == 0 {
             return Ok(Fetched::Nothing);
@@ -324,41 +174,41 @@ impl Link {
 
     /// Copies of the first `most` items of the buffer, as the batch that is sent next.
     pub fn batch_of(&self, alloc: Global, most: u32, time: u64) -> Result<Batch, NoMemory>
-        requires none_out { self.now.out ≡ None }
-        requires filled { 0 < length self.now.buffer }
+        requires may { may_cut self.now ≡ true }
         requires most { 0 < most }
         ensures cut { IfOk result (λ batch. batch ≡ cut self.now most time) }
         ensures lanes { IfOk result (λ batch. length batch.starts ≡ self.now.lanes) }
         ensures whole { IfOk result (λ batch. All (λ what. is_whole what ≡ true) batch.items) }
+        ensures within { IfOk result (λ batch. batch.place + length batch.items < end_of_places) }
     {
-        let mut starts = Vec::new(alloc);
-        starts.extend_from_slice(self.kept.lanes.as_slice())?;
+        let starts = self.state.kept.lanes.copy()?;
         Ok(Batch {
-            donor: self.donor,
-            place: self.kept.place,
+            donor: self.state.donor,
+            place: self.state.kept.place,
             time,
-            starts: Sequence::from_vec(starts),
-            items: first_whats(alloc, self.buffer.as_slice(), most)?,
+            starts,
+            items: first_whats(alloc, self.state.buffer.as_slice(), most)?,
         })
     }
 
     /// The first `most` items of the buffer are the batch that is out, with each lane's position at its end.
     pub fn send_out(&mut self, most: u32, ends: Counts)
-        requires none_out { self.old.out ≡ None }
-        requires filled { 0 < length self.old.buffer }
+        requires may { may_cut self.old ≡ true }
         requires most { 0 < most }
         requires ends { length ends ≡ self.old.lanes }
         ensures { self.new ≡ sent_out self.old most ends }
     {
         let start = Reading {
             last_id: None,
-            mark: self.kept.mark,
+            mark: self.state.kept.mark,
             finished: false,
         };
-        let count = self.buffer.len().min(most as usize);
-        let reading = take_first(&mut self.buffer, count, start);
-        self.out = Some(Out {
-            place: self.kept.place + count as u64,
+        let count = self.state.buffer.len().min(most as u64);
+        let buffer = mem::replace(&mut self.state.buffer, Sequence::new(self.alloc));
+        let (reading, rest) = take_first(buffer, count, start);
+        self.state.buffer = rest;
+        self.state.out = Some(Out {
+            place: self.state.kept.place + count,
             lanes: ends,
             reading,
         });
@@ -366,11 +216,11 @@ impl Link {
 
     /// The end of the batch that is out becomes the kept record.
     pub fn keep_batch(&mut self)
-        requires { is_some self.old.out ≡ true }
+        requires may { may_keep self.old ≡ true }
         ensures kept { self.new ≡ batch_kept self.old }
         ensures onward { self.old.kept.place ≤ self.new.kept.place }
     {
-        if let Some(out) = self.out.take() {
+        if let Some(out) = self.state.out.take() {
             let Out {
                 place,
                 lanes,
@@ -382,13 +232,13 @@ impl Link {
                 finished,
             } = reading;
             if last_id.is_some() {
-                self.kept.last_id = last_id;
+                self.state.kept.last_id = last_id;
             }
-            self.kept.place = place;
-            self.kept.lanes = lanes;
-            self.kept.mark = mark;
-            self.kept.read_out = self.read_out && self.clones <= place;
-            self.kept.finished = finished;
+            self.state.kept.place = place;
+            self.state.kept.lanes = lanes;
+            self.state.kept.mark = mark;
+            self.state.kept.read_out = self.state.read_out && self.state.clones <= place;
+            self.state.kept.finished = finished;
         }
     }
 
@@ -396,34 +246,38 @@ impl Link {
     pub fn back(&mut self)
         ensures { self.new ≡ gone_back self.old }
     {
-        self.out = None;
-        self.buffer.clear();
-        if !self.kept.read_out {
-            self.clones = self.kept.place;
+        self.state.out = None;
+        self.state.buffer = Sequence::new(self.alloc);
+        if !self.state.kept.read_out {
+            self.state.clones = self.state.kept.place;
         }
-        self.reading = Reading {
+        self.state.reading = Reading {
             last_id: None,
-            mark: self.kept.mark,
-            finished: self.kept.finished,
+            mark: self.state.kept.mark,
+            finished: self.state.kept.finished,
         };
-        self.read_out = self.kept.read_out;
-        self.near = false;
-        self.crashes = self.crashes.saturating_add(1);
+        self.state.read_out = self.state.kept.read_out;
+        self.state.near = false;
+        self.state.crashes = self.state.crashes.saturating_add(1);
     }
 
     /// Puts items at the buffer's end. Want of memory leaves all as it was.
     fn put(&mut self, items: Vec<Item>) -> Result<(), NoMemory>
-        requires { AreWhole items.items }
+        requires { feed.AreWhole items.items }
         ensures ok { OnOk result (self.new ≡ with_items self.old items.items) }
         ensures unchanged { OnErr result (self.new ≡ self.old) }
     {
         let mut items = items;
-        let place = match &self.out {
+        let place = match &self.state.out {
             Some(out) => out.place,
-            None => self.kept.place,
+            None => self.state.kept.place,
         };
-        sum(place + self.buffer.len() as u64, items.len() as u64)?;
-        self.buffer.append(&mut items)?;
+        sum(place + self.state.buffer.len(), items.len() as u64)?;
+        let buffer = mem::replace(&mut self.state.buffer, Sequence::new(self.alloc));
+        let mut buffer = buffer.into_vec();
+        let put = buffer.append(&mut items);
+        self.state.buffer = Sequence::from_vec(buffer);
+        put?;
         Ok(())
     }
 
@@ -431,11 +285,11 @@ impl Link {
     fn mark_read(&self) -> Mark
         ensures { result ≡ mark_read self.now }
     {
-        match self.reading.mark {
+        match self.state.reading.mark {
             Some(mark) => mark,
             None => Mark {
                 stamp: Stamp {
-                    time: self.fetch_time,
+                    time: self.state.fetch_time,
                     node: u32::MAX,
                 },
                 part: u32::MAX,
@@ -444,10 +298,11 @@ impl Link {
     }
 }
 
-/// The sum of two places; want of memory where it passes the last one.
+/// The sum of two numbers; want of memory exactly where it passes the last place.
 fn sum(a: u64, b: u64) -> Result<u64, NoMemory>
     ensures sum { IfOk result (λ n. n ≡ a + b) }
     ensures within { IfOk result (λ n. n < end_of_places) }
+    ensures exactly { is_ok result ≡ nat_lt (a + b) end_of_places }
 {
     match a.checked_add(b) {
         Some(n) => {
@@ -458,4 +313,12 @@ fn sum(a: u64, b: u64) -> Result<u64, NoMemory>
         }
         None => Err(NoMemory),
     }
+}
+
+/// A number of items that is at most a batch's.
+fn count_within(count: u64, batch: u32) -> u32
+    requires { count ≤ batch }
+    ensures { result ≡ count }
+{
+    count as u32
 }

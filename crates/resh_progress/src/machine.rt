@@ -8,7 +8,8 @@ use crate::step::Step;
 use crate::told::Told;
 use std::marker::Model;
 
-/// The phases of a machine that messages move.
+/// The phases of a machine that messages move, with what a proof needs of them: where a machine begins and ends, to
+/// which phase a message moves, how many phases come before one, and what was told on the way to it.
 pub trait Phases: Copy {
     ghost first: { Self };
 
@@ -16,7 +17,6 @@ pub trait Phases: Copy {
 
     ghost next_phase: { Next Self };
 
-    // How many phases come before.
     ghost place_of: { Self → ℕ };
 
     ghost told_until: { Way Self };

@@ -1,3 +1,4 @@
 mod Sums
 mod Counting
 mod Dealing
+mod Standing

@@ -1,27 +1,38 @@
 //! The positions of the lanes behind items.
 
-ghost use Rattle.std.specs.Prelude.{◌≡◌, ◌+◌, ◌<◌, map, take, length, Some, IfOk};
+ghost use Rattle.std.specs.Prelude.{◌≡◌, ◌+◌, ◌<◌, true, take, length, Some, IfOk};
+ghost use Rattle.resh_feed.specs.Feeds.{whats};
 ghost use Rattle.resh_feed.specs.Lanes.{counted, counts_after, item_lane};
+ghost use Rattle.resh_split.specs.Parts.{are_below_end, ends_behind};
 
 use crate::lane::item_lane;
 use resh_fetcher::Link;
 use resh_oplog::What;
 use resh_progress::Counts;
-use resh_value::{NoMemory, Sequence};
+use resh_value::{END_OF_PLACES, NoMemory, Sequence};
 use std::alloc::Global;
 
 /// The position of each lane behind the first `most` items of a link's buffer, counted from those of the kept record.
 pub fn ends_of(link: &Link, alloc: Global, most: u32) -> Result<Counts, NoMemory>
-    requires lanes { 0 < link.now.lanes }
-    ensures ends { IfOk result (λ ends. ends ≡ counts_after link.now.lanes link.now.kept.lanes (take most (map (λ item. item.what) link.now.buffer))) }
+    ensures ends { IfOk result (λ ends. ends ≡ ends_behind link.now most) }
     ensures lanes { IfOk result (λ ends. length ends ≡ link.now.lanes) }
+    ensures within { IfOk result (λ ends. are_below_end ends ≡ true) }
 {
-    let mut counts = Vec::new(alloc);
-    counts.extend_from_slice(link.kept().lanes.as_slice())?;
-    match u32::try_from(counts.len()) {
-        Ok(lanes) => count_first(counts, link, alloc, most, lanes),
-        Err(_) => Err(NoMemory),
+    let lanes = link.lanes();
+    let kept = link.kept();
+    let counts = kept.lanes.copy()?.into_vec();
+    let ends = count_first(counts, link, alloc, most, lanes)?;
+    if are_below_end(ends.as_slice()) {
+        return Ok(ends);
     }
+    Err(NoMemory)
+}
+
+/// Whether each position is one that a lane may come to.
+pub(crate) fn are_below_end(counts: &[u64]) -> bool
+    ensures { result ≡ are_below_end counts.now }
+{
+    counts.iter().all(|count| *count < END_OF_PLACES)
 }
 
 /// The first `most` items of a link's buffer are counted on their lanes.
@@ -34,7 +45,7 @@ fn count_first(
 ) -> Result<Counts, NoMemory>
     requires lanes { 0 < lanes }
     requires counts { length counts.items ≡ lanes }
-    ensures ends { IfOk result (λ ends. ends ≡ counts_after lanes counts.items (take most (map (λ item. item.what) link.now.buffer))) }
+    ensures ends { IfOk result (λ ends. ends ≡ counts_after lanes counts.items (take most (whats link.now.buffer))) }
     ensures lanes { IfOk result (λ ends. length ends ≡ lanes) }
 {
     let mut counts = counts;

@@ -50,20 +50,3 @@ pub(crate) fn item_lane(what: &What, alloc: Global, lanes: u32) -> Result<Option
         None => Ok(None),
     }
 }
-
-#[cfg(test)]
-mod tests {
-    use super::*;
-    use std::test::Fail;
-
-    #[test]
-    fn a_lane_is_the_sum_of_bytes(rt: HostRuntime) -> Result<(), Fail> {
-        let alloc = rt.alloc();
-        for (id, lanes, lane) in [(7, 4, 3), (7, 1, 0), (12, 4, 3), (21, 4, 3), (12, 7, 1)] {
-            assert_eq!(rt; id_lane(&Value::Int(id), alloc, lanes)?, lane, "{id}");
-            let text = Value::Int(id).text(alloc)?;
-            assert_eq!(rt; lane_of(&text, lanes), lane, "{id}");
-        }
-        Ok(())
-    }
-}

@@ -3,8 +3,10 @@
 
 mod counts;
 mod lane;
+mod laws;
 mod splitting;
 
 pub use counts::ends_of;
 pub use lane::{id_lane, lane_of};
+pub use laws::split_laws;
 pub use splitting::{Parts, Pieces, split};

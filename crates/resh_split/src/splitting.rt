@@ -1,15 +1,14 @@
 //! A batch is split among the lanes.
 
-ghost use Rattle.std.specs.Prelude.{◌≡◌, ◌<◌, [], Some, length, replicate, IfOk};
+ghost use Rattle.std.specs.Prelude.{◌≡◌, ◌<◌, [], true, Some, length, replicate, IfOk};
 ghost use Rattle.resh_oplog.specs.Logs.{id_written};
-ghost use Rattle.resh_feed.specs.Lanes.{counted, id_lane, item_lane};
-ghost use Rattle.resh_split.specs.Parts.{parts_of, pieces, pieces_of, put_all, put_in};
+ghost use Rattle.resh_split.specs.Parts.{is_below_end, parts_of, pieces, put_in};
 
-use crate::counts::{count_on, next};
+use crate::counts::{are_below_end, count_on, next};
 use crate::lane::id_lane;
 use resh_fetcher::Batch;
 use resh_oplog::{Piece, What};
-use resh_value::{NoMemory, Sequence, ShardId, Value};
+use resh_value::{END_OF_PLACES, NoMemory, Sequence, ShardId, Value};
 use std::alloc::Global;
 
 /// A list of pieces.
@@ -39,6 +38,7 @@ pub fn split(alloc: Global, batch: Batch, lanes: u32) -> Result<Parts, NoMemory>
     requires lanes { 0 < lanes }
     requires starts { length batch.starts ≡ lanes }
     ensures parts { IfOk result (λ parts. parts ≡ parts_of lanes (pieces lanes batch)) }
+    ensures within { IfOk result (λ parts. is_below_end lanes batch ≡ true) }
 {
     let Batch {
         donor,
@@ -57,7 +57,10 @@ pub fn split(alloc: Global, batch: Batch, lanes: u32) -> Result<Parts, NoMemory>
         deal.add(Origin { donor, time, place }, what, alloc)?;
         place = next(place)?;
     }
-    Ok(Sequence::from_vec(deal.parts))
+    if place < END_OF_PLACES && are_below_end(deal.counts.as_slice()) {
+        return Ok(Sequence::from_vec(deal.parts));
+    }
+    Err(NoMemory)
 }
 
 fn empty_parts(alloc: Global, lanes: u32) -> Result<Vec<Pieces>, NoMemory>
@@ -71,14 +74,12 @@ fn empty_parts(alloc: Global, lanes: u32) -> Result<Vec<Pieces>, NoMemory>
 }
 
 impl Deal {
+    ghost use Rattle.resh_split.specs.Deals.{HasMore, IsDeal};
+
     /// One more item is put at the end of its lane's part, and counted.
     fn add(&mut self, origin: Origin, what: What, alloc: Global) -> Result<(), NoMemory>
-        requires lanes { 0 < self.old.lanes }
-        requires counts { length self.old.counts.items ≡ self.old.lanes }
-        requires parts { length self.old.parts.items ≡ self.old.lanes }
-        ensures lanes { self.new.lanes ≡ self.old.lanes }
-        ensures counts { IfOk result (λ done. self.new.counts.items ≡ counted self.old.counts.items (item_lane self.old.lanes what)) }
-        ensures parts { IfOk result (λ done. self.new.parts.items ≡ put_all self.old.lanes self.old.parts.items (pieces_of self.old.lanes origin.donor origin.time origin.place self.old.counts.items what (id_written what))) }
+        requires { IsDeal self.old }
+        ensures { IfOk result (λ done. HasMore self.old origin what (id_written what) self.new) }
     {
         match copied_id(&what, alloc)? {
             Some(id) => self.add_under(id, origin, what, alloc),
@@ -93,12 +94,8 @@ impl Deal {
         what: What,
         alloc: Global,
     ) -> Result<(), NoMemory>
-        requires lanes { 0 < self.old.lanes }
-        requires counts { length self.old.counts.items ≡ self.old.lanes }
-        requires parts { length self.old.parts.items ≡ self.old.lanes }
-        ensures lanes { self.new.lanes ≡ self.old.lanes }
-        ensures counts { IfOk result (λ done. self.new.counts.items ≡ counted self.old.counts.items (Some (id_lane id self.old.lanes))) }
-        ensures parts { IfOk result (λ done. self.new.parts.items ≡ put_all self.old.lanes self.old.parts.items (pieces_of self.old.lanes origin.donor origin.time origin.place self.old.counts.items what (Some id))) }
+        requires { IsDeal self.old }
+        ensures { IfOk result (λ done. HasMore self.old origin what (Some id) self.new) }
     {
         let Origin { donor, time, place } = origin;
         let lane = id_lane(&id, alloc, self.lanes)?;
@@ -132,58 +129,5 @@ fn copied_id(what: &What, alloc: Global) -> Result<Option<Value>, NoMemory>
     match what.id() {
         Some(id) => Ok(Some(id.copy(alloc)?)),
         None => Ok(None),
-    }
-}
-
-#[cfg(test)]
-mod tests {
-    use super::*;
-    use crate::counts::ends_of;
-    use resh_fetcher::Link;
-    use std::test::Fail;
-
-    fn batch(alloc: Global) -> Result<Batch, Fail> {
-        let mut starts = Vec::new(alloc);
-        starts.push(3)?;
-        starts.push(0)?;
-        let mut items = Vec::new(alloc);
-        for id in [1, 2, 3] {
-            items.push(What::Delete { id: Value::Int(id) })?;
-        }
-        items.push(What::Final)?;
-        Ok(Batch {
-            donor: ShardId(2),
-            place: 4,
-            time: 9,
-            starts: Sequence::from_vec(starts),
-            items: Sequence::from_vec(items),
-        })
-    }
-
-    #[test]
-    fn items_come_to_the_lanes_of_their_ids(rt: HostRuntime) -> Result<(), Fail> {
-        let alloc = rt.alloc();
-        let batch = batch(alloc)?;
-        if batch.starts.len() != 2 {
-            return Err(Fail::from("not two lanes"));
-        }
-        let parts = split(alloc, batch, 2)?;
-        let mut seen = Vec::new(alloc);
-        for part in parts.as_slice() {
-            for piece in part.as_slice() {
-                seen.push((piece.place, piece.position))?;
-            }
-        }
-        assert_eq!(rt; seen.as_slice(), [(5, 3), (4, 0), (6, 1)].as_slice());
-        Ok(())
-    }
-
-    #[test]
-    fn nothing_is_behind_an_empty_buffer(rt: HostRuntime) -> Result<(), Fail> {
-        let alloc = rt.alloc();
-        let link = Link::new(alloc, ShardId(1), ShardId(2), 2, 4)?;
-        let ends = ends_of(&link, alloc, 3)?;
-        assert_eq!(rt; ends.as_slice(), [0, 0].as_slice());
-        Ok(())
     }
 }

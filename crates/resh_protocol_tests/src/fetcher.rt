@@ -1,29 +1,12 @@
-use crate::fetched::Fetched;
-use crate::link::Link;
-use resh_oplog::{Cloned, Entry, Log, What};
-use resh_stamp::Stamp;
-use resh_value::{Document, NoMemory, Sequence, ShardId, Value, Words};
-use std::alloc::Global;
+use crate::examples::{document, entry, log_of_deletes};
+use resh_fetcher::{Fetched, Link, link_laws};
+use resh_oplog::{Cloned, What};
+use resh_value::{Sequence, ShardId, Value};
 use std::test::Fail;
-
-fn document(alloc: Global, id: i64) -> Result<Document, NoMemory> {
-    let mut document = Document::new(alloc);
-    document.put(Words::of(alloc, "_id")?, Value::Int(id))?;
-    Ok(document)
-}
-
-fn entry(time: u64, what: What) -> Entry {
-    Entry {
-        stamp: Stamp { time, node: 1 },
-        part: 0,
-        donor: ShardId(2),
-        to: Some(ShardId(1)),
-        what,
-    }
-}
 
 #[test]
 fn clone_items_are_read_out(rt: HostRuntime) -> Result<(), Fail> {
+    link_laws();
     let alloc = rt.alloc();
     let mut link = Link::new(alloc, ShardId(1), ShardId(2), 1, 4)?;
     link.start(10);
@@ -53,13 +36,14 @@ fn a_clone_item_is_cut(rt: HostRuntime) -> Result<(), Fail> {
     let mut link = Link::new(alloc, ShardId(1), ShardId(2), 1, 4)?;
     link.start(10);
     let document = document(alloc, 5)?;
-    assert!(rt; document.id().is_some());
+    assert!(rt; document.is_whole());
     let documents = Sequence::from_vec(Vec::from_array(alloc, [document])?);
     link.take_cloned(Cloned {
         documents,
         end: true,
     })?;
     assert!(rt; link.item(0).is_some());
+    assert!(rt; link.may_cut());
     let batch = link.batch_of(alloc, 3, 20)?;
     assert_eq!(rt; (batch.place, batch.time, batch.items.len()), (0, 20, 1));
     Ok(())
@@ -71,7 +55,7 @@ fn a_batch_is_kept(rt: HostRuntime) -> Result<(), Fail> {
     let mut link = Link::new(alloc, ShardId(1), ShardId(2), 1, 4)?;
     link.start(10);
     let document = document(alloc, 5)?;
-    assert!(rt; document.id().is_some());
+    assert!(rt; document.is_whole());
     let documents = Sequence::from_vec(Vec::from_array(alloc, [document])?);
     link.take_cloned(Cloned {
         documents,
@@ -94,12 +78,7 @@ fn entries_past_the_fetch_time_come_next(rt: HostRuntime) -> Result<(), Fail> {
         documents: Sequence::new(alloc),
         end: true,
     })?;
-    let mut log = Log::new(alloc, ShardId(2));
-    for time in [9, 10, 11, 12] {
-        let entry = entry(time, What::Delete { id: Value::Date(3) });
-        assert!(rt; log.fits(&entry));
-        log.push(entry)?;
-    }
+    let log = log_of_deletes(alloc, 9, 13)?;
     let entries = link.fetch(&log)?;
     assert_eq!(rt; entries.len(), 2);
     Ok(())
@@ -122,5 +101,25 @@ fn a_final_entry_ends_the_feed(rt: HostRuntime) -> Result<(), Fail> {
     assert!(rt; link.near() && link.ended());
     link.fail();
     assert!(rt; link.has_failed());
+    Ok(())
+}
+
+#[test]
+fn a_link_reads_on_past_any_number_of_items(rt: HostRuntime) -> Result<(), Fail> {
+    let alloc = rt.alloc();
+    let mut link = Link::new(alloc, ShardId(1), ShardId(2), 1, 40_000)?;
+    link.start(0);
+    link.take_cloned(Cloned {
+        documents: Sequence::new(alloc),
+        end: true,
+    })?;
+    let log = log_of_deletes(alloc, 1, 70_001)?;
+    for got in [40_000, 70_000] {
+        assert!(rt; link.may_fetch());
+        let entries = link.fetch(&log)?;
+        link.take_fetched(entries)?;
+        assert_eq!(rt; link.buffered(), got);
+    }
+    assert!(rt; link.near() && !link.ended());
     Ok(())
 }
