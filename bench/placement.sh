@@ -1,9 +1,12 @@
 #!/bin/sh
 # Times `reshard plain` on 12,500 to 100,000 documents: the best of three runs, and the growth per doubling.
+# placement.sh [PROGRAM]: the program is proved and built where it isn't given and isn't there yet.
 # It is no part of the gate, and wants python3 and GNU time.
 set -eu
 top=$(CDPATH= cd -- "$(dirname -- "$0")/.." && pwd)
-program=${1:-$top/crates/resh_cli/out/resh_cli}
+[ -x /usr/bin/time ] || { echo "placement.sh wants GNU time at /usr/bin/time" >&2; exit 1; }
+command -v python3 >/dev/null || { echo "placement.sh wants python3" >&2; exit 1; }
+program=${1:-$("$top/bench/program.sh" resh_cli)}
 files=$(mktemp -d)
 trap 'rm -rf "$files"' EXIT
 before=

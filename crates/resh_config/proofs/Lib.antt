@@ -1,9 +1,14 @@
 mod ClientLemmas
 mod DocumentLemmas
+mod DocumentShapes
 mod KeyLemmas
 mod ListLemmas
 mod Outcomes
+mod PlanLemmas
 pub mod Readings
 mod SamePlaces
 mod SetupLemmas
+mod SortedMembers
+mod StepLemmas
 mod UpdateLemmas
+mod WordLemmas

@@ -14,8 +14,7 @@ use Rattle.resh_value.specs.OrderLaws.{compare_total}
 use Rattle.resh_value.specs.declared.value.Value.{Value}
 use Rattle.resh_chunks.specs.Chunks.{Chunks, owner_of}
 use Rattle.resh_value.specs.Lookup.{value_under}
-use Rattle.resh_config.specs.Documents.{Document}
-use Rattle.resh_config.specs.ClusterFile.{same_place, first_same}
+use Rattle.resh_setup.specs.Documents.{Document, same_place, first_same}
 
 -- a shard and a reference to an `_id`
 abbrev pub Place : Type 0

@@ -1,22 +1,22 @@
 -- Clients and their commands.
-use Rattle.std.specs.Prelude.{ℕ, ◌+◌, Bool, false, cond, not, ◌&&◌, nat_lt, List, [], ◌∷◌, length, codes, Option, Some, None, is_none, is_some, option_and_then, unwrap_or, Ok, Err}
-use Rattle.std.specs.List.{list_all, list_any}
+use Rattle.std.specs.Prelude.{ℕ, ◌+◌, Bool, false, cond, ◌&&◌, nat_lt, List, [], ◌∷◌, length, codes, Option, Some, None, is_none, is_some, option_and_then, unwrap_or, Ok, Err}
+use Rattle.std.specs.List.{list_all}
 use Rattle.serde_json.specs.Data.{Data, null, boolean, number, string, array, object, Members}
 use Rattle.serde_json.specs.Find.{get_member, as_bool}
-use Rattle.resh_value.specs.Names.{same_name}
-use Rattle.resh_value.specs.Outcome.{and_then, in_err}
+use Rattle.resh_value.specs.Outcome.{in_err}
 use Rattle.resh_filter.specs.Filters.{filter_of}
 use Rattle.resh_ops.specs.Reading.{update_of}
 use Rattle.resh_ops.specs.declared.operator.Action.{Action}
 use Rattle.resh_shard.specs.declared.command.Command.{Command}
 use Rattle.resh_shard.specs.declared.command.Command.TheVariants.{Insert, Update, Delete, Find, Count, Abort}
+use Rattle.resh_setup.specs.Documents.{Document}
+use Rattle.resh_setup.specs.Validity.{command_count, is_new_name}
 use Rattle.resh_setup.specs.declared.client.Client.{Client}
 use Rattle.resh_setup.specs.declared.fault.SetupFault.TheVariants.{WrongKind, OverLimit, Update as InUpdate, Filter as InFilter}
 use Rattle.resh_config.specs.declared.form.Form.{Form}
 use Rattle.resh_config.specs.declared.form.Form.TheVariants.{Insert as ToInsert, Update as ToUpdate, Delete as ToDelete, Find as ToFind, Count as ToCount, Abort as ToAbort}
-use Rattle.resh_config.specs.Walk.{Read, unlisted, field, row_with, text_in, count, items_from, list_in}
-use Rattle.resh_config.specs.Names.{is_node_name, accept}
-use Rattle.resh_config.specs.Documents.{Document, document_in}
+use Rattle.resh_config.specs.Walk.{Read, ◌>>=◌, unlisted, field, row_with, text_in, count, items_from, list_in, accept}
+use Rattle.resh_config.specs.Documents.{document_in}
 
 -- an object has these names and no others
 abbrev pub has_names : List (List ℕ) → Members → Bool
@@ -43,14 +43,14 @@ says_true content = unwrap_or (option_and_then as_bool content) false
 
 -- the command of a form, from the members of its object
 abbrev pub command_of : Members → Option Form → Read Command
-command_of ds (Some ToInsert) = and_then (λ document. Ok (Insert document)) (field ds (codes "insert") (document_in []))
+command_of ds (Some ToInsert) = field ds (codes "insert") (document_in []) >>= λ document. Ok (Insert document)
 command_of ds (Some ToUpdate) =
-    and_then (λ filter. and_then (λ update. Ok (Update filter update))
-    (field ds (codes "with") update_in))
-    (field ds (codes "update") filter_in)
-command_of ds (Some ToDelete) = and_then (λ filter. Ok (Delete filter)) (field ds (codes "delete") filter_in)
-command_of ds (Some ToFind) = and_then (λ filter. Ok (Find filter)) (field ds (codes "find") filter_in)
-command_of ds (Some ToCount) = and_then (λ filter. Ok (Count filter)) (field ds (codes "count") filter_in)
+    field ds (codes "update") filter_in >>= λ filter.
+    field ds (codes "with") update_in >>= λ update.
+    Ok (Update filter update)
+command_of ds (Some ToDelete) = field ds (codes "delete") filter_in >>= λ filter. Ok (Delete filter)
+command_of ds (Some ToFind) = field ds (codes "find") filter_in >>= λ filter. Ok (Find filter)
+command_of ds (Some ToCount) = field ds (codes "count") filter_in >>= λ filter. Ok (Count filter)
 command_of ds (Some ToAbort) = accept (says_true (get_member (codes "abort") ds)) Abort
 command_of ds None = Err (WrongKind [])
 
@@ -62,38 +62,28 @@ command_in before (number n) = Err (WrongKind [])
 command_in before (string text) = Err (WrongKind [])
 command_in before (array items) = Err (WrongKind [])
 
--- how many commands some clients have together
-abbrev pub command_count : List Client → ℕ
-command_count [] = 0
-command_count (client ∷ clients) = length client.commands + command_count clients
-
 -- a client's commands; with those of the clients before it there are at most 20,000
 abbrev pub commands_in : List Client → Data → Read (List Command)
-commands_in before (array ds) = cond (nat_lt 20000 (command_count before + count ds)) (Err (OverLimit [] 20000)) (items_from command_in [] ds)
+commands_in before (array ds) =
+    cond (nat_lt 20000 (command_count before + count ds)) (Err (OverLimit [] 20000)) (items_from command_in [] ds)
 commands_in before null = Err (WrongKind [])
 commands_in before (boolean b) = Err (WrongKind [])
 commands_in before (number n) = Err (WrongKind [])
 commands_in before (string text) = Err (WrongKind [])
 commands_in before (object ds) = Err (WrongKind [])
 
-abbrev pub is_called : List ℕ → Client → Bool
-is_called name client = same_name name client.name
-
 -- a client's name, which no client before it has
-abbrev pub is_new_name : List Client → List ℕ → Bool
-is_new_name before name = is_node_name name && not (list_any (is_called name) before)
-
 abbrev pub client_name_in : List Client → Data → Read (List ℕ)
-client_name_in before d = and_then (λ name. accept (is_new_name before name) name) (text_in d)
+client_name_in before d = text_in d >>= λ name. accept (is_new_name before name) name
 
 abbrev pub client_of : List Client → Members → Read Client
 client_of before ds =
-    and_then (λ name. and_then (λ commands. Ok (record { name = name; commands = commands }))
-    (field ds (codes "commands") (commands_in before)))
-    (field ds (codes "name") (client_name_in before))
+    field ds (codes "name") (client_name_in before) >>= λ name.
+    field ds (codes "commands") (commands_in before) >>= λ commands.
+    Ok (record { name = name; commands = commands })
 
 abbrev pub client_in : List Client → Data → Read Client
-client_in before d = and_then (client_of before) (row_with (codes "name" ∷ codes "commands" ∷ []) d)
+client_in before d = row_with (codes "name" ∷ codes "commands" ∷ []) d >>= client_of before
 
 abbrev pub clients_in : Data → Read (List Client)
 clients_in d = list_in 16 client_in d

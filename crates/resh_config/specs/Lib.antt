@@ -1,6 +1,8 @@
+pub mod Chunks
 pub mod Clients
 pub mod ClusterFile
 pub mod Documents
 pub mod Names
-pub mod Validity
+pub mod Plan
+pub mod Steps
 pub mod Walk

@@ -15,13 +15,19 @@ use Rattle.resh_setup.specs.declared.fault.SetupFault.TheVariants.{NotJson, Miss
 abbrev pub Read : Type 0 → Type 0
 Read A = Result A SetupFault
 
+-- what is read first, and what is read after it
+infixl 10 ◌>>=◌
+abbrev pub ◌>>=◌ : {A B : Type 0} → Read A → (A → Read B) → Read B
+r >>= next = and_then next r
+
 -- the fault is the one wanted, but for want of memory
 abbrev pub IsUnlessNoMemory : SetupFault → SetupFault → Type 0
 IsUnlessNoMemory fault wanted = fault ≢ NoMemory → fault ≡ wanted
 
 -- the answer, as it is seen, is the one wanted, but for want of memory
 abbrev pub GivesSeen : {A B : Type 0} → (A → B) → Result A SetupFault → Read B → Type 0
-GivesSeen seen answer wanted = MatchResult answer (λ x. wanted ≡ Ok (seen x)) (λ e. e ≢ NoMemory → wanted ≡ Err e)
+GivesSeen seen answer wanted =
+    MatchResult answer (λ x. wanted ≡ Ok (seen x)) (λ e. e ≢ NoMemory → wanted ≡ Err e)
 
 -- a fault inside, as it is seen from the path's beginning
 abbrev pub under : List ℕ → SetupFault → SetupFault
@@ -76,7 +82,9 @@ field_or default ds name read = optional default name read (get_member name ds)
 
 -- a whole number from `low` to `high`
 abbrev pub number_within : ℕ → ℕ → Num → Read ℕ
-number_within low high (unsigned n) = cond (nat_lt n (2 ^ 63)) (cond (nat_le low n && nat_le n high) (Ok n) (Err (OverLimit [] high))) (Err (WrongKind []))
+number_within low high (unsigned n) =
+    cond (nat_lt n (2 ^ 63)) (cond (nat_le low n && nat_le n high) (Ok n) (Err (OverLimit [] high)))
+    (Err (WrongKind []))
 number_within low high (negative z) = Err (OverLimit [] high)
 number_within low high (float x) = Err (WrongKind [])
 
@@ -103,7 +111,8 @@ count (item d ds) = count ds + 1
 -- the items of a list one after another, each read with those before it in sight
 abbrev pub items_from : {A : Type 0} → (List A → Data → Read A) → List A → Items → Read (List A)
 items_from read before no_items = Ok before
-items_from read before (item d ds) = and_then (λ a. items_from read (before ++ a ∷ []) ds) (at_step (to_place (length before)) (read before d))
+items_from read before (item d ds) =
+    at_step (to_place (length before)) (read before d) >>= λ a. items_from read (before ++ a ∷ []) ds
 
 -- a list of at most so many items
 abbrev pub list_in : {A : Type 0} → ℕ → (List A → Data → Read A) → Data → Read (List A)
@@ -119,11 +128,6 @@ abbrev pub some_of : {A : Type 0} → List A → Read (List A)
 some_of [] = Err (WrongKind [])
 some_of (a ∷ as') = Ok (a ∷ as')
 
--- whether a list that isn't read yet has items
-abbrev pub has_items : ℕ → Data → Read Bool
-has_items limit (array ds) = cond (nat_lt limit (count ds)) (Err (OverLimit [] limit)) (Ok (nat_lt 0 (count ds)))
-has_items limit null = Err (WrongKind [])
-has_items limit (boolean b) = Err (WrongKind [])
-has_items limit (number n) = Err (WrongKind [])
-has_items limit (string text) = Err (WrongKind [])
-has_items limit (object ds) = Err (WrongKind [])
+-- the content is accepted where it is good
+abbrev pub accept : {A : Type 0} → Bool → A → Read A
+accept good a = cond good (Ok a) (Err (WrongKind []))

@@ -1,18 +1,18 @@
 //! Chunk maps: bounds, rows, and the map that they make.
 
-ghost use Rattle.std.specs.Prelude.{◌≡◌, ◌≤◌, position, length};
+ghost use Rattle.std.specs.Prelude.{◌≡◌, ◌≤◌, length};
 ghost use Rattle.serde_json.specs.View.{members_view};
-ghost use Rattle.resh_value.specs.Names.{same_name};
 ghost use Rattle.resh_value.specs.Outcome.{Gives};
-ghost use Rattle.resh_config.specs.ClusterFile.{bound_value_in, end_named, bound_in, shard_named, shard_in, row_of, chunk_row_in, chunks_in};
+ghost use Rattle.resh_config.specs.Chunks.{bound_value_in, end_named, bound_in, shard_in, row_of, chunk_row_in, chunks_in};
 
-use crate::faults::{in_value, no_path, unknown_here, wrong_kind};
+use crate::faults::{in_value, no_path, wrong_kind};
 use crate::lists::{ItemReader, items_of, list_in};
-use crate::names::{is_node_name, is_same};
+use crate::names::is_same;
 use crate::walk::{FieldReader, required, row_with, text_in};
+use crate::words::shard_named;
 use resh_chunks::{Bound, ChunkMap, ChunkRow, KeyPattern};
 use resh_setup::SetupFault;
-use resh_value::{Names, ShardId, Value, Words};
+use resh_value::{Names, ShardId, Value};
 use serde_json::{Map, Value as Json};
 use std::alloc::Global;
 
@@ -151,23 +151,4 @@ impl FieldReader for Shard<'_> {
             Err(fault) => Err(fault),
         }
     }
-}
-
-fn shard_named(alloc: Global, name: &str, shards: &[Words]) -> Result<ShardId, SetupFault>
-    requires { length shards.now ≤ 8 }
-    ensures { result ≡ shard_named shards.now name.now }
-{
-    if !is_node_name(name) {
-        return Err(wrong_kind(alloc));
-    }
-    match place_of(name, shards) {
-        Some(place) => Ok(ShardId(place as u32)),
-        None => Err(unknown_here(alloc)),
-    }
-}
-
-fn place_of(name: &str, names: &[Words]) -> Option<usize>
-    ensures { result ≡ position (same_name name.now) names.now }
-{
-    names.iter().position(|other| is_same(name, other.as_str()))
 }

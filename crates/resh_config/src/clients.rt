@@ -4,7 +4,8 @@ ghost use Rattle.std.specs.Prelude.{◌≡◌};
 ghost use Rattle.std.specs.List.{list_any};
 ghost use Rattle.serde_json.specs.View.{members_view};
 ghost use Rattle.resh_value.specs.Outcome.{Gives};
-ghost use Rattle.resh_config.specs.Clients.{is_called, is_new_name, client_name_in, client_of, client_in, clients_in};
+ghost use Rattle.resh_setup.specs.Validity.{is_called, is_new_name};
+ghost use Rattle.resh_config.specs.Clients.{client_name_in, client_of, client_in, clients_in};
 
 use crate::commands::ClientCommands;
 use crate::lists::{ItemReader, list_in};

@@ -1,16 +1,19 @@
 //! The fields of a cluster file, in their order.
 
+ghost use Rattle.std.specs.Prelude.{◌≤◌, length};
 ghost use Rattle.serde_json.specs.View.{view, members_view};
-ghost use Rattle.resh_value.specs.Outcome.{Gives, and_then};
-ghost use Rattle.resh_config.specs.ClusterFile.{maps_in, rest_in, setup_in};
+ghost use Rattle.resh_value.specs.Outcome.{Gives};
+ghost use Rattle.resh_config.specs.ClusterFile.{maps_in, rest_in, setup_of, setup_in};
 
 use crate::chunks::Chunks;
 use crate::clients::ClientList;
 use crate::documents::Collection;
-use crate::lists::HasItems;
 use crate::maps::Maps;
 use crate::names::{Key, Shards};
+use crate::plan::PlanRows;
+use crate::steps::Steps;
 use crate::walk::{NumberIn, optional, required, row_with};
+use crate::words::Known;
 use resh_setup::{Clients, Events, Plan, Setup, SetupFault};
 use serde_json::{Map, Value as Json};
 use std::alloc::Global;
@@ -39,8 +42,9 @@ pub(crate) fn setup_in(alloc: Global, json: &Json) -> Result<Setup, SetupFault>
     }
 }
 
+#[tactic(auto, using(crate::proofs::SetupLemmas::few_in_maps))]
 fn setup_of(alloc: Global, members: &Map<String, Json>) -> Result<Setup, SetupFault>
-    ensures { Gives SetupFault.NoMemory result (and_then (λ maps. rest_in maps (members_view members.now.entries)) (maps_in (members_view members.now.entries))) }
+    ensures { Gives SetupFault.NoMemory result (setup_of (members_view members.now.entries)) }
 {
     match maps_in(alloc, members) {
         Ok(maps) => rest_in(alloc, maps, members),
@@ -75,7 +79,9 @@ fn maps_in(alloc: Global, members: &Map<String, Json>) -> Result<Maps, SetupFaul
 }
 
 /// The documents and the fields after them.
+#[tactic(auto, using(crate::proofs::ClientLemmas::few_clients))]
 fn rest_in(alloc: Global, maps: Maps, members: &Map<String, Json>) -> Result<Setup, SetupFault>
+    requires { length maps.shards ≤ 8 }
     ensures { Gives SetupFault.NoMemory result (rest_in maps (members_view members.now.entries)) }
 {
     let Maps {
@@ -87,8 +93,25 @@ fn rest_in(alloc: Global, maps: Maps, members: &Map<String, Json>) -> Result<Set
     let clients = optional(alloc, members, "clients", ClientList, Clients::new(alloc))?;
     let lanes = optional(alloc, members, "lanes", NumberIn { low: 1, high: 16 }, 4)?;
     let batch = optional(alloc, members, "batch", NumberIn { low: 1, high: 500 }, 500)?;
-    let steps = optional(alloc, members, "steps", HasItems { limit: 100_000 }, false)?;
-    let plan = optional(alloc, members, "plan", HasItems { limit: 1_000 }, false)?;
+    let known = Known {
+        shards: &shards,
+        clients: &clients,
+        lanes,
+    };
+    let steps = optional(
+        alloc,
+        members,
+        "steps",
+        Steps { known: &known },
+        Events::new(alloc),
+    )?;
+    let plan = optional(
+        alloc,
+        members,
+        "plan",
+        PlanRows { known: &known },
+        Plan::new(alloc),
+    )?;
     Ok(Setup {
         shards,
         old_map,
@@ -97,8 +120,7 @@ fn rest_in(alloc: Global, maps: Maps, members: &Map<String, Json>) -> Result<Set
         clients,
         lanes,
         batch,
-        steps: Events::new(alloc),
-        plan: Plan::new(alloc),
-        unbuilt: steps || plan,
+        steps,
+        plan,
     })
 }

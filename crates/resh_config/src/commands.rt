@@ -7,7 +7,8 @@ ghost use Rattle.serde_json.specs.View.{view, members_view};
 ghost use Rattle.resh_value.specs.Outcome.{Gives};
 ghost use Rattle.resh_config.specs.Walk.{unlisted};
 ghost use Rattle.resh_config.specs.Documents.{document_in};
-ghost use Rattle.resh_config.specs.Clients.{form_of, filter_in, update_in, says_true, command_of, command_in, command_count, commands_in};
+ghost use Rattle.resh_setup.specs.Validity.{command_count};
+ghost use Rattle.resh_config.specs.Clients.{form_of, filter_in, update_in, says_true, command_of, command_in, commands_in};
 
 use crate::documents::Inserted;
 use crate::faults::{in_filter, in_update, no_path, over_limit, wrong_kind};
@@ -112,7 +113,8 @@ fn form_of(members: &Map<String, Json>) -> Option<Form>
 
 /// Whether an object has these names and no others.
 fn has_names(members: &Map<String, Json>, names: &[&str]) -> bool
-    ensures { result ≡ (is_none (unlisted (map (λ n. n.now) names.now) (members_view members.now.entries)) && list_all (λ n. is_some (get_member n.now (members_view members.now.entries))) names.now) }
+    ensures { result ≡ (is_none (unlisted (map (λ n. n.now) names.now) (members_view members.now.entries))
+        && list_all (λ n. is_some (get_member n.now (members_view members.now.entries))) names.now) }
 {
     unlisted(members, names).is_none() && has_each(members, names)
 }

@@ -5,8 +5,9 @@ ghost use Rattle.resh_value.specs.Lookup.{field_of, value_under};
 ghost use Rattle.resh_value.specs.Order.{kind};
 ghost use Rattle.resh_value.specs.Outcome.{Gives};
 ghost use Rattle.resh_value.specs.Text.{document_text};
-ghost use Rattle.resh_config.specs.Documents.{is_id, with_rules, document_in};
-ghost use Rattle.resh_config.specs.ClusterFile.{documents_in, first_same, distinct_only};
+ghost use Rattle.resh_setup.specs.Documents.{is_id, first_same};
+ghost use Rattle.resh_config.specs.Documents.{with_rules, document_in};
+ghost use Rattle.resh_config.specs.ClusterFile.{documents_in, distinct_only};
 
 use crate::faults::{in_value, no_id, no_path, over_limit};
 use crate::lists::{ItemReader, list_in};

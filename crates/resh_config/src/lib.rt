@@ -11,13 +11,15 @@ mod form;
 mod lists;
 mod maps;
 mod names;
-#[cfg(test)]
-mod tests;
+mod plan;
+mod step_word;
+mod steps;
 mod walk;
+mod words;
 
 ghost use Rattle.std.specs.Prelude.{◌≢◌, IfOk, MatchResult};
 ghost use Rattle.resh_config.specs.ClusterFile.{IsSetup, IsRefused};
-ghost use Rattle.resh_config.specs.Validity.{IsValid};
+ghost use Rattle.resh_setup.specs.Validity.{IsValid};
 
 use cluster_file::setup_in;
 use resh_setup::{Setup, SetupFault};
@@ -26,7 +28,8 @@ use std::alloc::Global;
 
 /// The setup that the bytes of a cluster file are, or the first fault of the walk through it.
 pub fn read_setup(alloc: Global, bytes: &[u8]) -> Result<Setup, SetupFault>
-    ensures exact { MatchResult result (IsSetup bytes.now) (λ fault. fault ≢ SetupFault.NoMemory → IsRefused bytes.now fault) }
+    ensures exact { MatchResult result (IsSetup bytes.now)
+        (λ fault. fault ≢ SetupFault.NoMemory → IsRefused bytes.now fault) }
     ensures valid { IfOk result IsValid }
 {
     match Json::from_slice(alloc, bytes) {

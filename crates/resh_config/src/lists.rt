@@ -4,10 +4,9 @@ ghost use Rattle.std.specs.Prelude.{◌≡◌, List, []};
 ghost use Rattle.serde_json.specs.Data.{Data};
 ghost use Rattle.serde_json.specs.View.{view, items_view};
 ghost use Rattle.resh_value.specs.Outcome.{Gives};
-ghost use Rattle.resh_config.specs.Walk.{Read, count, items_from, list_in, some_of, has_items};
+ghost use Rattle.resh_config.specs.Walk.{Read, count, items_from, list_in, some_of};
 
 use crate::faults::{over_limit, under_place, wrong_kind};
-use crate::walk::FieldReader;
 use resh_setup::SetupFault;
 use resh_value::Sequence;
 use serde_json::Value as Json;
@@ -90,28 +89,4 @@ pub(crate) fn some_of<T: Drop>(alloc: Global, items: Sequence<T>) -> Result<Sequ
         return Err(wrong_kind(alloc));
     }
     Ok(items)
-}
-
-/// Tells whether a list that isn't read yet has items.
-#[derive(Drop)]
-pub(crate) struct HasItems {
-    pub(crate) limit: u64,
-}
-
-impl FieldReader for HasItems {
-    type Content = bool;
-
-    ghost reads = { λ h. has_items h.limit };
-
-    fn read(self, alloc: Global, json: &Json) -> Result<bool, SetupFault> {
-        match json {
-            Json::Array(items) => {
-                if count(items) > self.limit {
-                    return Err(over_limit(alloc, self.limit));
-                }
-                Ok(count(items) > 0)
-            }
-            _ => Err(wrong_kind(alloc)),
-        }
-    }
 }

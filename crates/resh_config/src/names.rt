@@ -6,7 +6,9 @@ ghost use Rattle.serde_json.specs.View.{view};
 ghost use Rattle.resh_chunks.specs.Pattern.{pattern_fault};
 ghost use Rattle.resh_value.specs.Names.{same_name};
 ghost use Rattle.resh_value.specs.Outcome.{Gives};
-ghost use Rattle.resh_config.specs.Names.{is_node_byte, is_node_name, is_field_name, shard_name_in, shards_in, key_name_in, key_in, accept};
+ghost use Rattle.resh_setup.specs.Names.{is_node_byte, is_node_name, is_field_name, is_new, is_shard_name, is_key_name};
+ghost use Rattle.resh_config.specs.Names.{shard_name_in, shards_in, key_name_in, key_in};
+ghost use Rattle.resh_config.specs.Walk.{accept};
 
 use crate::faults::wrong_kind;
 use crate::lists::{ItemReader, list_in, some_of};
@@ -51,12 +53,7 @@ impl ItemReader for ShardName {
 
     fn read(&mut self, alloc: Global, before: &[Words], json: &Json) -> Result<Words, SetupFault> {
         match text_in(alloc, json) {
-            Ok(name) => {
-                let good = is_node_name(name)
-                    && !is_same(name, "coordinator")
-                    && !is_among(name, before);
-                accept(alloc, good, name)
-            }
+            Ok(name) => accept(alloc, is_shard_name(before, name), name),
             Err(fault) => Err(fault),
         }
     }
@@ -109,7 +106,7 @@ impl ItemReader for KeyName {
 
     fn read(&mut self, alloc: Global, before: &[Words], json: &Json) -> Result<Words, SetupFault> {
         match text_in(alloc, json) {
-            Ok(name) => accept(alloc, is_field_name(name) && !is_among(name, before), name),
+            Ok(name) => accept(alloc, is_key_name(before, name), name),
             Err(fault) => Err(fault),
         }
     }
@@ -150,6 +147,24 @@ fn has_no_dot(bytes: &[u8]) -> bool
     ensures { result ≡ list_all (λ b. not (b == 46)) bytes.now }
 {
     bytes.iter().all(|b| *b != b'.')
+}
+
+fn is_shard_name(before: &[Words], name: &str) -> bool
+    ensures { result ≡ is_shard_name before.now name.now }
+{
+    is_node_name(name) && !is_same(name, "coordinator") && is_new(before, name)
+}
+
+fn is_key_name(before: &[Words], name: &str) -> bool
+    ensures { result ≡ is_key_name before.now name.now }
+{
+    is_field_name(name) && is_new(before, name)
+}
+
+fn is_new(before: &[Words], name: &str) -> bool
+    ensures { result ≡ is_new before.now name.now }
+{
+    !is_among(name, before)
 }
 
 fn is_among(name: &str, names: &[Words]) -> bool

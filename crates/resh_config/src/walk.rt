@@ -31,7 +31,8 @@ pub(crate) fn row_with<'a>(
     json: &'a Json,
     names: &[&str],
 ) -> Result<&'a Map<String, Json>, SetupFault>
-    ensures { GivesSeen (λ m. members_view m.now.entries) result (row_with (map (λ n. n.now) names.now) (view json.now)) }
+    ensures { GivesSeen (λ m. members_view m.now.entries) result
+        (row_with (map (λ n. n.now) names.now) (view json.now)) }
 {
     match json {
         Json::Object(members) => match unlisted(members, names) {
@@ -44,7 +45,8 @@ pub(crate) fn row_with<'a>(
 
 /// The first name that isn't listed, in byte order.
 pub(crate) fn unlisted<'a>(members: &'a Map<String, Json>, names: &[&str]) -> Option<&'a str>
-    ensures { option_map (λ n. n.now) result ≡ unlisted (map (λ n. n.now) names.now) (members_view members.now.entries) }
+    ensures { option_map (λ n. n.now) result
+        ≡ unlisted (map (λ n. n.now) names.now) (members_view members.now.entries) }
 {
     for (name, _) in members.iter() {
         if !is_listed(name.as_str(), names) {
@@ -85,7 +87,8 @@ pub(crate) fn optional<R: FieldReader>(
     reader: R,
     default: R::Content,
 ) -> Result<R::Content, SetupFault>
-    ensures { Gives SetupFault.NoMemory result (field_or default (members_view members.now.entries) name.now (R.reads reader)) }
+    ensures { Gives SetupFault.NoMemory result
+        (field_or default (members_view members.now.entries) name.now (R.reads reader)) }
 {
     match member(members, name) {
         None => Ok(default),

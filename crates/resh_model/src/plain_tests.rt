@@ -229,7 +229,6 @@ fn setup_of(alloc: Global, row: &Json) -> Result<Setup, Fail> {
         batch: 500,
         steps: Sequence::new(alloc),
         plan: Sequence::new(alloc),
-        unbuilt: false,
     })
 }
 

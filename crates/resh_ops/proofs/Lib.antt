@@ -5,5 +5,5 @@ mod NumberLaws
 pub mod PathLaws
 mod PathSteps
 mod ReadLemmas
-mod ReadPaths
+pub mod ReadPaths
 mod Neighbours

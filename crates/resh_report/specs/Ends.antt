@@ -22,7 +22,8 @@ node_text shards (Shard s) = name_at shards s.0
 
 abbrev pub cause_text : List (List ℕ) → List (List ℕ) → Cause → List ℕ
 cause_text shards clients (Clash s id) = codes "clash " ++ name_at shards s.0 ++ codes " " ++ text_of id
-cause_text shards clients (Asked client number) = codes "asked " ++ name_at clients client ++ codes " " ++ decimal number
+cause_text shards clients (Asked client number) =
+    codes "asked " ++ name_at clients client ++ codes " " ++ decimal number
 cause_text shards clients (Failed node why) = codes "failed " ++ node_text shards node ++ codes " " ++ why_text why
 cause_text shards clients NoMemory = codes "no memory"
 

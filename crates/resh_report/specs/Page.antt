@@ -26,27 +26,32 @@ refused_mark false = []
 
 -- a turn after the turns before it: a client's name and the number of its command, or the mark
 abbrev pub turn_text : List (List ℕ) → List Turn → Turn → List ℕ
-turn_text clients before (Command client refused) = name_at clients client ++ codes " " ++ decimal (turns_of client before + 1) ++ refused_mark refused
+turn_text clients before (Command client refused) =
+    name_at clients client ++ codes " " ++ decimal (turns_of client before + 1) ++ refused_mark refused
 turn_text clients before Switch = codes "switch"
 turn_text clients before (Drop cause) = codes "drop"
 
 abbrev pub turn_lines : List (List ℕ) → List Turn → List Turn → List ℕ
 turn_lines clients before [] = []
-turn_lines clients before (turn ∷ more) = line (turn_text clients before turn) ++ turn_lines clients (before ++ turn ∷ []) more
+turn_lines clients before (turn ∷ more) =
+    line (turn_text clients before turn) ++ turn_lines clients (before ++ turn ∷ []) more
 
 abbrev pub document_line : List (List ℕ × Value) → List ℕ
 document_line document = line (document_text document)
 
 -- a shard's name and number of documents, and its documents
 abbrev pub shard_lines : List ℕ → List (List (List ℕ × Value)) → List ℕ
-shard_lines name held = line (codes "shard " ++ name ++ codes " " ++ decimal (length held)) ++ flat_map document_line held
+shard_lines name held =
+    line (codes "shard " ++ name ++ codes " " ++ decimal (length held)) ++ flat_map document_line held
 
 -- the shards from a place on
 abbrev pub holdings_lines : List (List ℕ) → ℕ → List (List (List (List ℕ × Value))) → List ℕ
 holdings_lines shards place [] = []
-holdings_lines shards place (held ∷ more) = shard_lines (name_at shards place) held ++ holdings_lines shards (place + 1) more
+holdings_lines shards place (held ∷ more) =
+    shard_lines (name_at shards place) held ++ holdings_lines shards (place + 1) more
 
-abbrev pub page_text : List (List ℕ) → List (List ℕ) → List Turn → End → List (List Reply) → List (List (List (List ℕ × Value))) → List ℕ
+abbrev pub page_text : List (List ℕ) → List (List ℕ) → List Turn → End → List (List Reply)
+    → List (List (List (List ℕ × Value))) → List ℕ
 page_text shards clients order end answers holdings =
     line (codes "steps") ++ line (codes "order") ++ turn_lines clients [] order
     ++ answers_lines clients 0 answers ++ holdings_lines shards 0 holdings ++ end_line shards clients end

@@ -41,7 +41,8 @@ reply_lines NoMemory = line (codes "no memory")
 -- replies, numbered from this number on
 abbrev pub replies_lines : ℕ → List Reply → List ℕ
 replies_lines number [] = []
-replies_lines number (reply ∷ more) = decimal number ++ codes " " ++ reply_lines reply ++ replies_lines (number + 1) more
+replies_lines number (reply ∷ more) =
+    decimal number ++ codes " " ++ reply_lines reply ++ replies_lines (number + 1) more
 
 -- a client's name, and its replies
 abbrev pub client_lines : List ℕ → List Reply → List ℕ
@@ -50,4 +51,5 @@ client_lines name replies = line (codes "client " ++ name) ++ replies_lines 1 re
 -- the clients from a place on
 abbrev pub answers_lines : List (List ℕ) → ℕ → List (List Reply) → List ℕ
 answers_lines clients place [] = []
-answers_lines clients place (replies ∷ more) = client_lines (name_at clients place) replies ++ answers_lines clients (place + 1) more
+answers_lines clients place (replies ∷ more) =
+    client_lines (name_at clients place) replies ++ answers_lines clients (place + 1) more

@@ -30,7 +30,8 @@ fn append_cause(
     clients: &[Client],
     cause: &Cause,
 ) -> Result<Vec<u8>, NoMemory>
-    ensures { IfOk result (λ bytes. bytes.items ≡ out.items ++ cause_text shards.now (names_of clients.now) cause.now) }
+    ensures { IfOk result (λ bytes.
+        bytes.items ≡ out.items ++ cause_text shards.now (names_of clients.now) cause.now) }
 {
     match cause {
         Cause::Clash { shard, id } => {

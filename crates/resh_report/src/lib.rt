@@ -2,11 +2,7 @@
 #![tactic(auto)]
 
 mod ends;
-#[cfg(test)]
-mod page_tests;
 mod pages;
-#[cfg(test)]
-mod refusal_tests;
 mod refusals;
 mod replies;
 mod text;

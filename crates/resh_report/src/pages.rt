@@ -24,7 +24,8 @@ pub fn page(
     replies: &Answers,
     shards: &Holdings,
 ) -> Result<Vec<u8>, NoMemory>
-    ensures { IfOk result (λ bytes. bytes.items ≡ page_text setup.now.shards (names_of setup.now.clients) order.now end.now replies.now shards.now) }
+    ensures { IfOk result (λ bytes. bytes.items ≡
+        page_text setup.now.shards (names_of setup.now.clients) order.now end.now replies.now shards.now) }
 {
     let names = setup.shards.as_slice();
     let clients = setup.clients.as_slice();

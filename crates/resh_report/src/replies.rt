@@ -36,7 +36,8 @@ fn append_client(
     place: usize,
     replies: &Replies,
 ) -> Result<Vec<u8>, NoMemory>
-    ensures { IfOk result (λ bytes. bytes.items ≡ out.items ++ client_lines (name_at (names_of clients.now) place) replies.now) }
+    ensures { IfOk result (λ bytes.
+        bytes.items ≡ out.items ++ client_lines (name_at (names_of clients.now) place) replies.now) }
 {
     let out = append_client_name(append(out, "client ")?, clients, place)?;
     append_replies(append_line_feed(out)?, replies.as_slice())

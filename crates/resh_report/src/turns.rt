@@ -37,8 +37,10 @@ fn append_turn(
     turn: &Turn,
 ) -> Result<Vec<u8>, NoMemory>
     requires room { HasRoom counts.old }
-    ensures line { IfOk result (λ bytes. (before : List Turn) → HasCounts before counts.old → bytes.items ≡ out.items ++ line (turn_text (names_of clients.now) before turn.now)) }
-    ensures counted { OnOk result ((before : List Turn) → HasCounts before counts.old → HasCounts (before ++ turn.now ∷ []) counts.new) }
+    ensures line { IfOk result (λ bytes. (before : List Turn) → HasCounts before counts.old
+        → bytes.items ≡ out.items ++ line (turn_text (names_of clients.now) before turn.now)) }
+    ensures counted { OnOk result ((before : List Turn) → HasCounts before counts.old
+        → HasCounts (before ++ turn.now ∷ []) counts.new) }
 {
     match turn {
         Turn::Command { client, refused } => {
@@ -54,7 +56,8 @@ fn append_turn(
 fn next_number(counts: &mut Counts, client: u32) -> Result<u64, NoMemory>
     requires room { HasRoom counts.old }
     ensures number { IfOk result (λ number. number ≡ count_of counts.old client + 1) }
-    ensures counted { OnOk result ((other : ℕ) → count_of counts.new other ≡ count_of counts.old other + cond (other == client) 1 0) }
+    ensures counted { OnOk result ((other : ℕ)
+        → count_of counts.new other ≡ count_of counts.old other + cond (other == client) 1 0) }
 {
     let number = counts.get(&client).copied().unwrap_or(0) + 1;
     counts.insert(client, number)?;
@@ -68,7 +71,8 @@ fn append_command(
     number: u64,
     refused: bool,
 ) -> Result<Vec<u8>, NoMemory>
-    ensures { IfOk result (λ bytes. bytes.items ≡ out.items ++ line (name_at (names_of clients.now) client ++ codes " " ++ decimal number ++ refused_mark refused)) }
+    ensures { IfOk result (λ bytes. bytes.items ≡ out.items
+        ++ line (name_at (names_of clients.now) client ++ codes " " ++ decimal number ++ refused_mark refused)) }
 {
     let out = append_client_name(out, clients, client as usize)?;
     let out = append_spaced(out, number)?;

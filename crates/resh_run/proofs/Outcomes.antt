@@ -4,11 +4,10 @@ use Rattle.std.specs.declared.option.Option.{Option}
 use Rattle.serde_json.specs.Data.{Data}
 use Rattle.resh_setup.specs.declared.setup.Setup.{Setup}
 use Rattle.resh_setup.specs.declared.fault.SetupFault.{SetupFault}
-use Rattle.resh_config.specs.Walk.{Read}
 use Rattle.resh_config.specs.ClusterFile.{IsOutcome, read, no_reading, IsSetup, IsRefused, setup_in}
 use Rattle.resh_io.specs.Reading.{GivesAll}
 
-pub one_outcome : (bytes : List ℕ) (r s : Read Setup) → IsOutcome bytes r → IsOutcome bytes s → r ≡ s
+pub one_outcome : (bytes : List ℕ) (r s : Result Setup SetupFault) → IsOutcome bytes r → IsOutcome bytes s → r ≡ s
 one_outcome bytes r s (read d is e) (read d' is' e') =
     let same : Some d ≡ Some d' = sym is.1 ∙ is'.1 in
     let same_data : d ≡ d' = cc in
@@ -18,13 +17,13 @@ one_outcome bytes r s (no_reading none e) (read d is e') = let clash : Some d �
 one_outcome bytes r s (no_reading none e) (no_reading none' e') = e ∙ sym e'
 
 pub one_setup : (bytes : List ℕ) (s t : Setup) → IsSetup bytes s → IsSetup bytes t → s ≡ t
-one_setup bytes s t h k = let same : ◌≡◌ {A = Read Setup} (Ok s) (Ok t) = one_outcome bytes (Ok s) (Ok t) h k in cc
+one_setup bytes s t h k = let same : ◌≡◌ {A = Result Setup SetupFault} (Ok s) (Ok t) = one_outcome bytes (Ok s) (Ok t) h k in cc
 
 pub one_fault : (bytes : List ℕ) (f g : SetupFault) → IsRefused bytes f → IsRefused bytes g → f ≡ g
-one_fault bytes f g h k = let same : ◌≡◌ {A = Read Setup} (Err f) (Err g) = one_outcome bytes (Err f) (Err g) h k in cc
+one_fault bytes f g h k = let same : ◌≡◌ {A = Result Setup SetupFault} (Err f) (Err g) = one_outcome bytes (Err f) (Err g) h k in cc
 
 pub not_both : (bytes : List ℕ) (s : Setup) (f : SetupFault) → IsSetup bytes s → IsRefused bytes f → ⊥
-not_both bytes s f h k = let same : ◌≡◌ {A = Read Setup} (Ok s) (Err f) = one_outcome bytes (Ok s) (Err f) h k in cc
+not_both bytes s f h k = let same : ◌≡◌ {A = Result Setup SetupFault} (Ok s) (Err f) = one_outcome bytes (Ok s) (Err f) h k in cc
 
 -- a source that tells its bytes gave these
 pub given_is : (bytes given : List ℕ) (new : Option (List ℕ)) → GivesAll (Some bytes) new given → given ≡ bytes

@@ -13,7 +13,7 @@ use Rattle.resh_chunks.specs.Chunks.{Chunks, owner_of}
 use Rattle.resh_value.specs.Lookup.{id_of}
 use Rattle.resh_model.specs.Bag.{Document, place_cmp, place_of, HasDistinctPlaces}
 use Rattle.resh_model.specs.PlaceOrder.{place_total}
-use Rattle.resh_config.specs.ClusterFile.{first_same, same_place}
+use Rattle.resh_setup.specs.Documents.{first_same, same_place}
 
 equal_numbers : (m n : ℕ) → is_eq (nat_cmp m n) ≡ eqb m n
 equal_numbers m n = by (ltb m n) (eqb m n) (never m n)

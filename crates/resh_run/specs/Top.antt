@@ -41,7 +41,8 @@ no_memory_text = line (codes "no memory")
 
 -- clients, steps and a plan aren't built yet
 abbrev pub is_unbuilt : Setup → Bool
-is_unbuilt setup = nat_lt 0 (length setup.clients) || setup.unbuilt
+is_unbuilt setup =
+    nat_lt 0 (length setup.clients) || (nat_lt 0 (length setup.steps) || nat_lt 0 (length setup.plan))
 
 abbrev pub status_of : End → ℕ
 status_of Committed = 0

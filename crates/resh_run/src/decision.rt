@@ -1,8 +1,8 @@
 //! What the top call has to say.
 
 ghost use Rattle.resh_run.specs.Said.{IsSaid, BytesSay, FaultSays, SetupSays};
-ghost use Rattle.std.specs.Prelude.{◌≡◌, None, []};
-ghost use Rattle.resh_config.specs.ClusterFile.{first_same};
+ghost use Rattle.std.specs.Prelude.{◌≡◌};
+ghost use Rattle.resh_setup.specs.Validity.{IsValid};
 ghost use Rattle.resh_run.specs.Top.{is_unbuilt};
 
 use crate::words::are_plain;
@@ -78,11 +78,11 @@ fn fault_says(alloc: Global, fault: &SetupFault) -> Said
 fn is_unbuilt(setup: &Setup) -> bool
     ensures { result ≡ is_unbuilt setup.now }
 {
-    setup.clients.len() > 0 || setup.unbuilt
+    setup.clients.len() > 0 || setup.steps.len() > 0 || setup.plan.len() > 0
 }
 
 fn setup_says(alloc: Global, mut setup: Setup) -> Said
-    requires { first_same setup.old_map [] setup.documents ≡ None }
+    requires { IsValid setup }
     ensures { SetupSays setup result }
 {
     if is_unbuilt(&setup) {

@@ -31,27 +31,3 @@ impl Copied for Client {
         self.copy()
     }
 }
-
-#[cfg(test)]
-mod tests {
-    use super::*;
-    use resh_shard::Command;
-    use std::test::Fail;
-
-    #[test]
-    fn clients_are_copied(rt: HostRuntime) -> Result<(), Fail> {
-        let alloc = rt.alloc();
-        let mut commands = Commands::new(alloc);
-        if commands.push(Command::Abort).is_err() {
-            return Err(Fail::from("no memory"));
-        }
-        let client = Client {
-            name: Words::of(alloc, "c1")?,
-            commands,
-        };
-        let copied = client.copied(alloc)?;
-        assert_eq!(rt; copied.name.as_str(), "c1");
-        assert_eq!(rt; copied.commands.len(), 1);
-        Ok(())
-    }
-}

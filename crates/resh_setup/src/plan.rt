@@ -34,30 +34,3 @@ impl Copied for Planned {
         Ok(*self)
     }
 }
-
-#[cfg(test)]
-mod tests {
-    use super::*;
-    use resh_luck::{Kind, PlanFate};
-    use std::test::Fail;
-
-    #[test]
-    fn rows_are_copied(rt: HostRuntime) -> Result<(), Fail> {
-        let row = PlanRow {
-            kind: Kind::Commit,
-            first: 1,
-            last: 1,
-            fate: PlanFate::Failed,
-        };
-        let planned = Planned {
-            who: Who::Lane {
-                recipient: ShardId(1),
-                donor: ShardId(0),
-                lane: 3,
-            },
-            row,
-        };
-        assert_eq!(rt; planned.copied(rt.alloc())?, planned);
-        Ok(())
-    }
-}

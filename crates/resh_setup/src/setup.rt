@@ -22,6 +22,4 @@ pub struct Setup {
     /// The file's steps, none of which is `Fail`.
     pub steps: Events,
     pub plan: Plan,
-    /// Whether the file has steps or a plan, which aren't read yet.
-    pub unbuilt: bool,
 }

@@ -1,5 +1,5 @@
 use Rattle.std.proofs.Common.{◌≡◌, ◌+◌, ◌≤◌, length}
-use Rattle.resh_config.specs.Clients.{command_count}
+use Rattle.resh_setup.specs.Validity.{command_count}
 use Rattle.resh_config.proofs.commands.are_too_many.Given as goal
 
 abbrev pub invariant-loop-rest : goal.invariant-loop-rest

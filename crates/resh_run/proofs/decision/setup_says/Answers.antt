@@ -5,7 +5,7 @@ use Rattle.resh_run.proofs.PlacementPlaces.{distinct_rows}
 use Rattle.resh_run.proofs.decision.setup_says.Goals as goal
 
 pub run_of-requires : goal.run_of-requires
-run_of-requires c = subst (HasDistinctPlaces c.args.setup.old_map) (sym c.replace-documents.ensures.value) (distinct_rows c.args.setup.old_map c.args.setup.documents c.requires)
+run_of-requires c = subst (HasDistinctPlaces c.args.setup.old_map) (sym c.replace-documents.ensures.value) (distinct_rows c.args.setup.old_map c.args.setup.documents c.requires.documents.distinct)
 
 pub returns-in-Ok-page : goal.returns-in-Ok-page
 returns-in-Ok-page c =

@@ -1,8 +1,9 @@
-// The texts of refusals, written from the rules, and that calls succeed where memory is there.
-use crate::refusal;
+//! The texts of refusals, written from the rules, and that calls succeed where memory is there.
+
 use resh_chunks::ChunkFault;
 use resh_filter::FilterFault;
 use resh_ops::UpdateFault;
+use resh_report::refusal;
 use resh_setup::SetupFault;
 use resh_value::{ValueFault, Words};
 use std::alloc::Global;

@@ -1,8 +1,9 @@
-// The texts of pages, written from the rules, and that calls succeed where memory is there.
-use crate::page;
+//! The texts of pages, written from the rules, and that calls succeed where memory is there.
+
 use resh_chunks::{Bound, ChunkMap, ChunkRow, KeyPattern};
 use resh_coord::{Cause, End, Node, Why};
 use resh_ops::ChangeFault;
+use resh_report::page;
 use resh_setup::{Answers, Client, Holdings, Setup, Turn, Turns};
 use resh_shard::Reply;
 use resh_value::{Document, Documents, Names, Sequence, ShardId, Value, Words};
@@ -47,7 +48,6 @@ fn setup_of(alloc: Global, names: &[&str]) -> Result<Setup, Fail> {
         batch: 500,
         steps: Sequence::new(alloc),
         plan: Sequence::new(alloc),
-        unbuilt: false,
     })
 }
 
