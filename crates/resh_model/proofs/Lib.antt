@@ -11,6 +11,7 @@ pub mod Hitting
 pub mod Holding
 pub mod Lawful
 pub mod Lists
+pub mod MarkCauses
 pub mod Marking
 pub mod OneMark
 pub mod Opened

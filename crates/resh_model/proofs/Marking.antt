@@ -22,14 +22,14 @@ served_open : (client : ℕ) (state : State) → ((e : End) → state.fate ≢ e
 served_open client state open' refused next =
     each_served client state (λ s. (e : End) → s.fate ≢ ended e) open' open' (λ command. open') (λ number n free e is. cc) (λ late. open') refused next
 
-no_drop : (setup : Setup) (state : State) (end : End) → state.fate ≡ ended end → (cause : Cause) → AllowsDrop setup state cause → ⊥
+pub no_drop : (setup : Setup) (state : State) (end : End) → state.fate ≡ ended end → (cause : Cause) → AllowsDrop setup state cause → ⊥
 no_drop setup state end is (Clash shard id) allowed = let free = allowed.0 in cc
 no_drop setup state end is (Asked client number) allowed = cc
 no_drop setup state end is (Failed node why) allowed = cc
 no_drop setup state end is NoMemory allowed = cc
 
 -- behind the mark no other stands
-after_mark : (setup : Setup) (ts : List Turn) (state : State) (end : End) → state.fate ≡ ended end → AllowsAll setup state ts → (filter is_mark ts ≡ []) × ((walked setup state ts).fate ≡ ended end)
+pub after_mark : (setup : Setup) (ts : List Turn) (state : State) (end : End) → state.fate ≡ ended end → AllowsAll setup state ts → (filter is_mark ts ≡ []) × ((walked setup state ts).fate ≡ ended end)
 after_mark setup [] state end is all = (refl, is)
 after_mark setup (turn.Command client refused ∷ ts) state end is all =
     after_mark setup ts (turned setup state (turn.Command client refused)) end (served_ended client state end is refused (next_command setup state client)) all.1

@@ -1,5 +1,5 @@
 -- Without clients, a run of one mark is a lawful order, and its page is the page of that order.
-use Rattle.std.proofs.Common.{◌≡◌, List, [], map, sym, ap, ◌∙◌}
+use Rattle.std.proofs.Common.{◌≡◌, false, List, [], map, sym, ap, ◌∙◌}
 use Rattle.resh_coord.specs.declared.cause.End.{End}
 use Rattle.resh_setup.specs.declared.setup.Setup.{Setup}
 use Rattle.resh_setup.specs.declared.turn.Turn.{Turn}
@@ -8,14 +8,15 @@ use Rattle.resh_model.specs.Bag.{Document}
 use Rattle.resh_model.specs.Marks.{bag_of, IsRun}
 use Rattle.resh_model.specs.Orders.{last_state, holdings_of, IsLawful}
 use Rattle.resh_report.specs.Lines.{names_of}
-use Rattle.resh_model.specs.Runs.{page_of, IsMarked}
+use Rattle.resh_model.specs.MarkLaws.{is_failure}
+use Rattle.resh_model.specs.Runs.{page_of}
 use Rattle.resh_model.proofs.Lawful.{runs_are_lawful}
 
 module _ (setup : Setup) (none : setup.clients ≡ []) where
   module _ (order : List Turn) (end : End) (holdings : List (List Document)) where
-    pub one_marked : IsRun setup.old_map setup.new_map (bag_of setup) order end holdings → IsMarked setup order end
-    one_marked (IsRun.switched calm o e h) = IsMarked.switched calm o e
-    one_marked (IsRun.dropped shard id first o e h) = IsMarked.dropped shard id first o e
+    pub one_well : IsRun setup.old_map setup.new_map (bag_of setup) order end holdings → is_failure end ≡ false
+    one_well (IsRun.switched calm o e h) = ap is_failure e
+    one_well (IsRun.dropped shard id first o e h) = ap is_failure e
 
     pub one_lawful : IsRun setup.old_map setup.new_map (bag_of setup) order end holdings → IsLawful setup order end
     one_lawful run = (runs_are_lawful setup order end holdings none run).0

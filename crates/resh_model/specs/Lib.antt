@@ -5,6 +5,7 @@ pub mod Entries
 pub mod Findings
 pub mod Laws
 pub mod Licence
+pub mod MarkLaws
 pub mod Marks
 pub mod OrderLaws
 pub mod Orders

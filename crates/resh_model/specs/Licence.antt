@@ -1,5 +1,5 @@
 -- Which failures a plan and the file's crashes give leave to.
-use Rattle.std.specs.Prelude.{◌≡◌, ⊤, ℕ, ◌+◌, ◌<◌, ◌≤◌, Bool, true, false, ◌&&◌, ◌==◌, nat_le, List, length, find, Option, Some, None}
+use Rattle.std.specs.Prelude.{◌≡◌, ⊤, ℕ, ◌+◌, ◌<◌, ◌≤◌, Bool, true, false, ◌&&◌, ◌==◌, nat_le, List, [], length, find, Option, Some, None}
 use Rattle.std.specs.List.{All, AllPairs, Contains}
 use Rattle.std.specs.Option.{option_map_or}
 use Rattle.resh_luck.specs.declared.row.Kind.{Kind}
@@ -17,6 +17,7 @@ use Rattle.resh_coord.specs.declared.cause.Why.{Why}
 use Rattle.resh_coord.specs.declared.cause.Why.TheVariants as why
 use Rattle.resh_setup.specs.declared.plan.Planned.{Planned}
 use Rattle.resh_setup.specs.declared.plan.Who.{Who}
+use Rattle.resh_setup.specs.declared.setup.Setup.{Setup}
 use Rattle.resh_setup.specs.declared.plan.Who.TheVariants.{Coordinator, Link, Lane}
 
 abbrev pub same_kind : Kind → Kind → Bool
@@ -92,6 +93,17 @@ abbrev pub IsLicensed : List Planned → (Who → ℕ) → Node → Why → Type
 IsLicensed plan crash_steps n why.Commit = FailsToCommit plan n
 IsLicensed plan crash_steps n why.Link = LosesLink plan n
 IsLicensed plan crash_steps n why.Crashes = CrashesOften plan crash_steps n
+
+-- no failure is licensed
+abbrev pub LicensesNone : List Planned → (Who → ℕ) → Type 0
+LicensesNone plan crash_steps = (n : Node) (w : Why) → IsLicensed plan crash_steps n w → ⊥
+
+-- a setup's plan, and how many of its steps crash each link: none is built yet
+abbrev pub plan_of : Setup → List Planned
+plan_of setup = []
+
+abbrev pub crash_steps_of : Setup → Who → ℕ
+crash_steps_of setup who = 0
 
 -- an end names a failure only where it is licensed
 abbrev pub HasLicence : List Planned → (Who → ℕ) → End → Type 0

@@ -2,6 +2,7 @@
 
 ghost use Rattle.resh_model.specs.Findings.{DoingsFind};
 ghost use Rattle.resh_model.specs.Laws.{KeepsAll, NoClashInPlace, OpensPlaced, OpensWhole, PartsRise, PutsOne, RemovesOne, SameByPlace};
+ghost use Rattle.resh_model.specs.MarkLaws.{CommitsElse, EndsHaveCauses, OneMarkWithoutClients};
 ghost use Rattle.resh_model.specs.OrderLaws.{AnswersEachOnce, AnswersOne, AsksEachOnce, DropLeaves, DropsAtOnce, DropsOnlyThere, HasOneEnd, HasOneMark, HasTurnForEach, HoldingsKeepAll, HoldingsRise, RefusedLeave, RepliesLeaveBag, RunsAreLawful, StaysPlaced, SwitchKeeps};
 
 /// A bag is what stands at its places, and puts and removals act place by place.
@@ -80,4 +81,12 @@ pub fn walks_stay_placed()
 /// A run without clients is a lawful order of one mark.
 pub fn runs_are_lawful()
     ensures { RunsAreLawful }
+{}
+
+/// The end of a lawful order has its cause at the mark: a commit that no clash stands, a drop that clash or that abort.
+/// Without clients and without failure there is no turn but the mark that the opening collection asks for.
+pub fn ends_have_causes()
+    ensures cause { EndsHaveCauses }
+    ensures commits { CommitsElse }
+    ensures one_mark { OneMarkWithoutClients }
 {}

@@ -18,7 +18,7 @@ mod seat;
 mod state;
 
 pub use laws::{
-    bag_laws, doings_find, marks_keep_the_documents, opening_laws, orders_are_functions,
+    bag_laws, doings_find, ends_have_causes, marks_keep_the_documents, opening_laws, orders_are_functions,
     orders_have_one_mark, orders_serve_each_once, parts_rise, placement_keeps_all,
     replies_leave_the_bag, runs_are_lawful, walks_stay_placed,
 };
