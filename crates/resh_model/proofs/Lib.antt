@@ -1,5 +1,7 @@
 pub mod Aborts
 pub mod BagLaws
+pub mod ByRecipient
+pub mod ByShard
 pub mod Clashing
 pub mod Deciding
 pub mod Doings
@@ -11,8 +13,10 @@ pub mod Hitting
 pub mod Holding
 pub mod Lawful
 pub mod Lists
+pub mod Locality
 pub mod MarkCauses
 pub mod Marking
+pub mod Merged
 pub mod OneMark
 pub mod Opened
 pub mod Opening
@@ -32,3 +36,4 @@ pub mod SortedEntries
 pub mod Switching
 pub mod Turns
 pub mod Walking
+pub mod WholeHeld

@@ -9,8 +9,11 @@ pub mod MarkLaws
 pub mod Marks
 pub mod OrderLaws
 pub mod Orders
+pub mod PartLaws
+pub mod Parts
 pub mod PlaceOrder
 pub mod Placement
 pub mod Runs
 pub mod Seats
 pub mod States
+pub mod WholeLaws

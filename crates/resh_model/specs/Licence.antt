@@ -1,5 +1,5 @@
 -- Which failures a plan and the file's crashes give leave to.
-use Rattle.std.specs.Prelude.{◌≡◌, ⊤, ℕ, ◌+◌, ◌<◌, ◌≤◌, Bool, true, false, ◌&&◌, ◌==◌, nat_le, List, [], length, find, Option, Some, None}
+use Rattle.std.specs.Prelude.{◌≡◌, ⊤, ℕ, ◌+◌, ◌<◌, ◌≤◌, Bool, true, false, ◌&&◌, ◌==◌, nat_le, List, length, filter, find, Option, Some, None}
 use Rattle.std.specs.List.{All, AllPairs, Contains}
 use Rattle.std.specs.Option.{option_map_or}
 use Rattle.resh_luck.specs.declared.row.Kind.{Kind}
@@ -18,6 +18,8 @@ use Rattle.resh_coord.specs.declared.cause.Why.TheVariants as why
 use Rattle.resh_setup.specs.declared.plan.Planned.{Planned}
 use Rattle.resh_setup.specs.declared.plan.Who.{Who}
 use Rattle.resh_setup.specs.declared.setup.Setup.{Setup}
+use Rattle.resh_setup.specs.declared.event.Event.{Event}
+use Rattle.resh_setup.specs.declared.event.Event.TheVariants.{Crash}
 use Rattle.resh_setup.specs.declared.plan.Who.TheVariants.{Coordinator, Link, Lane}
 
 abbrev pub same_kind : Kind → Kind → Bool
@@ -98,12 +100,14 @@ IsLicensed plan crash_steps n why.Crashes = CrashesOften plan crash_steps n
 abbrev pub LicensesNone : List Planned → (Who → ℕ) → Type 0
 LicensesNone plan crash_steps = (n : Node) (w : Why) → IsLicensed plan crash_steps n w → ⊥
 
--- a setup's plan, and how many of its steps crash each link: none is built yet
-abbrev pub plan_of : Setup → List Planned
-plan_of setup = []
+-- the step crashes the link
+abbrev pub is_crash_of : Who → Event → Bool
+is_crash_of (Link r d) (Crash s e) = (r.0 == s.0) && (d.0 == e.0)
+is_crash_of who event = false
 
-abbrev pub crash_steps_of : Setup → Who → ℕ
-crash_steps_of setup who = 0
+-- how many steps of a file crash each link
+abbrev pub crash_steps : Setup → Who → ℕ
+crash_steps setup who = length (filter (is_crash_of who) setup.steps)
 
 -- an end names a failure only where it is licensed
 abbrev pub HasLicence : List Planned → (Who → ℕ) → End → Type 0

@@ -3,6 +3,8 @@
 ghost use Rattle.resh_model.specs.Findings.{DoingsFind};
 ghost use Rattle.resh_model.specs.Laws.{KeepsAll, NoClashInPlace, OpensPlaced, OpensWhole, PartsRise, PutsOne, RemovesOne, SameByPlace};
 ghost use Rattle.resh_model.specs.MarkLaws.{CommitsElse, EndsHaveCauses, OneMarkWithoutClients};
+ghost use Rattle.resh_model.specs.PartLaws.{AnsweredByTargets, ClashesByRecipient, LeavesOtherParts, MovesByHalves, PartsMerge, ReadsByShard};
+ghost use Rattle.resh_model.specs.WholeLaws.{GrowsByTurns, StaysWhole, UpdateKeepsId};
 ghost use Rattle.resh_model.specs.OrderLaws.{AnswersEachOnce, AnswersOne, AsksEachOnce, DropLeaves, DropsAtOnce, DropsOnlyThere, HasOneEnd, HasOneMark, HasTurnForEach, HoldingsKeepAll, HoldingsRise, RefusedLeave, RepliesLeaveBag, RunsAreLawful, StaysPlaced, SwitchKeeps};
 
 /// A bag is what stands at its places, and puts and removals act place by place.
@@ -89,4 +91,38 @@ pub fn ends_have_causes()
     ensures cause { EndsHaveCauses }
     ensures commits { CommitsElse }
     ensures one_mark { OneMarkWithoutClients }
+{}
+
+/// A bag is read by shard; what is done on one shard leaves the others' parts; the two halves of a move are the move.
+pub fn bags_by_shard()
+    ensures reads { ReadsByShard }
+    ensures others { LeavesOtherParts }
+    ensures halves { MovesByHalves }
+{}
+
+/// A command does what it does by what its targets hold: the owner of its key, or shard 0 or all, and an update's result's
+/// owner.
+pub fn commands_by_targets()
+    ensures { AnsweredByTargets }
+{}
+
+/// The shards' own finds and counts merge to those of the bag.
+pub fn parts_merge()
+    ensures { PartsMerge }
+{}
+
+/// A clash is told by the part of its recipient, and the first one by the first recipient that has one.
+pub fn clashes_by_recipient()
+    ensures { ClashesByRecipient }
+{}
+
+/// Each held document keeps its `_id` and its rising names, and an update its `_id`.
+pub fn documents_stay_whole()
+    ensures whole { StaysWhole }
+    ensures ids { UpdateKeepsId }
+{}
+
+/// An order that was lawful so far grows by each turn that may come.
+pub fn orders_grow()
+    ensures { GrowsByTurns }
 {}

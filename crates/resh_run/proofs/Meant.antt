@@ -11,7 +11,7 @@ use Rattle.resh_setup.specs.declared.fault.SetupFault.{SetupFault}
 use Rattle.resh_setup.specs.declared.fault.SetupFault.TheVariants as InSetup
 use Rattle.resh_setup.specs.declared.plan.Planned.{Planned}
 use Rattle.resh_setup.specs.declared.plan.Who.{Who}
-use Rattle.resh_model.specs.Licence.{HasLicence, plan_of, crash_steps_of}
+use Rattle.resh_model.specs.Licence.{HasLicence, crash_steps}
 use Rattle.resh_model.specs.MarkLaws.{is_failure}
 use Rattle.resh_model.specs.Orders.{IsLawful}
 use Rattle.resh_model.proofs.MarkCauses.{commits_else, one_mark_without_clients}
@@ -73,7 +73,7 @@ module _ (words : List (String Global)) (source : Seen) where
   means (Ran order end page) h =
       let page_of = h.1.says.2 in
       ran h.1.bytes h.1.says.0 h.0 h.1.whole h.1.says.1 page_of.built
-      (record { ended = end; lawful = page_of.lawful; licensed = licensed (plan_of h.1.says.0) (crash_steps_of h.1.says.0) end page_of.well; end_is = refl; meant_is = refl; page_is = page_of.text })
+      (record { ended = end; lawful = page_of.lawful; licensed = licensed h.1.says.0.plan (crash_steps h.1.says.0) end page_of.well; end_is = refl; meant_is = refl; page_is = page_of.text })
       (λ ended is. let same : end ≡ ended = cc in sym (ap is_failure same) ∙ page_of.well)
 
   module _ (s : Saying) where

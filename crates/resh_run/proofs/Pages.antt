@@ -26,7 +26,7 @@ pub says_page : (setup : Setup) (order : List Turn) (end : End) (holdings : List
     → IsRun setup.old_map setup.new_map (bag_of setup) order end holdings
     → page ≡ page_text setup.shards (names_of setup.clients) order end [] holdings → IsPage setup order end page
 says_page setup order end holdings page built run is =
-    let none = no_clients setup.clients setup.unbuilt built in
+    let none = no_clients setup.clients _ built in
     record {
       built = built;
       lawful = one_lawful setup none order end holdings run;

@@ -8,7 +8,7 @@ use Rattle.resh_coord.specs.declared.cause.Cause.TheVariants.{NoMemory}
 use Rattle.resh_setup.specs.declared.setup.Setup.{Setup}
 use Rattle.resh_setup.specs.declared.fault.SetupFault.{SetupFault}
 use Rattle.resh_model.specs.Placement.{HasNoClash}
-use Rattle.resh_model.specs.Licence.{LicensesNone, plan_of, crash_steps_of}
+use Rattle.resh_model.specs.Licence.{LicensesNone, crash_steps}
 use Rattle.resh_model.specs.MarkLaws.{bag_at_mark, is_failure, AcceptsNone}
 use Rattle.resh_model.specs.Runs.{IsMarked}
 use Rattle.resh_config.specs.ClusterFile.{IsSetup, IsRefused}
@@ -76,7 +76,7 @@ IsWanting outcome = (outcome.status ≡ 6) ⊎ (outcome.end ≡ Some (Aborted No
 abbrev pub Commits : List (String Global) → Seen → Seen → Outcome → Type 0
 Commits words source sink outcome = (setup : Setup) → IsFedSetup words source setup → is_unbuilt setup ≡ false
     → HasNoClash setup.new_map (bag_at_mark setup outcome.order) → AcceptsNone setup outcome.order
-    → LicensesNone (plan_of setup) (crash_steps_of setup) → ¬ Rose sink.old.faults sink.new.faults
+    → LicensesNone setup.plan (crash_steps setup) → ¬ Rose sink.old.faults sink.new.faults
     → (outcome.status ≡ 0) ⊎ IsWanting outcome
 
 -- a run without clients, and without failure, is the mark that the opening collection asks for

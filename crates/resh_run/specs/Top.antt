@@ -10,7 +10,7 @@ use Rattle.resh_coord.specs.declared.cause.End.TheVariants.{Committed, Aborted}
 use Rattle.resh_setup.specs.declared.setup.Setup.{Setup}
 use Rattle.resh_setup.specs.declared.turn.Turn.{Turn}
 use Rattle.resh_setup.specs.declared.fault.SetupFault.{SetupFault}
-use Rattle.resh_model.specs.Licence.{HasLicence, plan_of, crash_steps_of}
+use Rattle.resh_model.specs.Licence.{HasLicence, crash_steps}
 use Rattle.resh_model.specs.MarkLaws.{is_failure}
 use Rattle.resh_model.specs.Orders.{IsLawful}
 use Rattle.resh_model.specs.Runs.{page_of}
@@ -45,7 +45,8 @@ no_memory_text = line (codes "no memory")
 
 -- clients, steps and a plan aren't built yet
 abbrev pub is_unbuilt : Setup → Bool
-is_unbuilt setup = nat_lt 0 (length setup.clients) || setup.unbuilt
+is_unbuilt setup =
+    nat_lt 0 (length setup.clients) || (nat_lt 0 (length setup.steps) || (nat_lt 0 (length setup.plan) || setup.unbuilt))
 
 abbrev pub status_of : End → ℕ
 status_of Committed = 0
@@ -71,7 +72,7 @@ said_in outcome text = record { meant = outcome.meant; order = outcome.order; en
 pub record IsRunOf (setup : Setup) (said : Saying) : Type 0 where
   pub ended : End
   pub lawful : IsLawful setup said.order ended
-  pub licensed : HasLicence (plan_of setup) (crash_steps_of setup) ended
+  pub licensed : HasLicence setup.plan (crash_steps setup) ended
   pub end_is : said.end ≡ Some ended
   pub meant_is : said.meant ≡ status_of ended
   pub page_is : said.text ≡ page_of setup said.order ended

@@ -79,7 +79,7 @@ fn fault_says(alloc: Global, fault: &SetupFault) -> Said
 fn is_unbuilt(setup: &Setup) -> bool
     ensures { result ≡ is_unbuilt setup.now }
 {
-    setup.clients.len() > 0 || setup.unbuilt
+    setup.clients.len() > 0 || setup.steps.len() > 0 || setup.plan.len() > 0 || setup.unbuilt
 }
 
 fn setup_says(alloc: Global, mut setup: Setup) -> Said
