@@ -36,7 +36,8 @@ same_who who other = false
 
 -- the row speaks of the step of this activity, kind and number, counted from 1
 abbrev pub has_step : Who → Kind → ℕ → Planned → Bool
-has_step who kind number p = same_who p.who who && same_kind p.row.kind kind && nat_le p.row.first number && nat_le number p.row.last
+has_step who kind number p = same_who p.who who && same_kind p.row.kind kind && nat_le p.row.first number
+    && nat_le number p.row.last
 
 -- what a step meets: the first row that has it says so, and without one nothing happens to it
 abbrev pub met : List Planned → Who → Kind → ℕ → Option PlanFate

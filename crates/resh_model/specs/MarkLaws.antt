@@ -48,7 +48,8 @@ EndsHaveCauses = (setup : Setup) (order : List Turn) (end : End) → IsLawful se
 -- where no clash stands at the mark, no abort is accepted and nothing failed, it commits
 abbrev pub CommitsElse : Type 0
 CommitsElse = (setup : Setup) (order : List Turn) (end : End) → IsLawful setup order end
-    → HasNoClash setup.new_map (bag_at_mark setup order) → AcceptsNone setup order → is_failure end ≡ false → end ≡ Committed
+    → HasNoClash setup.new_map (bag_at_mark setup order) → AcceptsNone setup order → is_failure end ≡ false
+    → end ≡ Committed
 
 -- without clients and without failure a lawful order is the mark that the opening collection asks for
 abbrev pub OneMarkWithoutClients : Type 0

@@ -43,7 +43,8 @@ pub record StaysWhole : Type 0 where
 
 -- an update leaves the `_id`
 abbrev pub UpdateKeepsId : Type 0
-UpdateKeepsId = (chunks : Chunks) (bag : Bag) (filter : Document) (update : List Action) (shard : ℕ) (document : Document)
+UpdateKeepsId = (chunks : Chunks) (bag : Bag) (filter : Document) (update : List Action) (shard : ℕ)
+    (document : Document)
     (target : ℕ) (result : Document) → IsUpdate update
     → doing chunks bag (Update filter update) ≡ replaces shard document target result → id_of result ≡ id_of document
 

@@ -45,8 +45,8 @@ pub fn orders_serve_each_once()
     ensures one { AnswersOne }
 {}
 
-/// One mark stands in a lawful order, the one of its end. An accepted abort is followed at once by its drop, which stands
-/// nowhere else.
+/// One mark stands in a lawful order, the one of its end. An accepted abort is followed at once by its drop, which
+/// stands nowhere else.
 pub fn orders_have_one_mark()
     ensures mark { HasOneMark }
     ensures at_once { DropsAtOnce }
@@ -72,8 +72,8 @@ pub fn marks_keep_the_documents()
     ensures switch { SwitchKeeps }
 {}
 
-/// Each document stands where the map in force places it, so no shard holds an `_id` twice, and together the shards hold
-/// each document once.
+/// Each document stands where the map in force places it, so no shard holds an `_id` twice, and together the shards
+/// hold each document once.
 pub fn walks_stay_placed()
     ensures placed { StaysPlaced }
     ensures rise { HoldingsRise }
@@ -100,8 +100,8 @@ pub fn bags_by_shard()
     ensures halves { MovesByHalves }
 {}
 
-/// A command does what it does by what its targets hold: the owner of its key, or shard 0 or all, and an update's result's
-/// owner.
+/// A command does what it does by what its targets hold: the owner of its key, or shard 0 or all, and the owner of an
+/// update's result.
 pub fn commands_by_targets()
     ensures { AnsweredByTargets }
 {}

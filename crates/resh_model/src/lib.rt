@@ -1,19 +1,14 @@
-//! The collection that a run stands for: one bag of documents, where a chunk map places them, what clashes, what a command
-//! does to it, the orders in which commands and marks may come, and the plain program that serves an order.
+//! The collection that a run stands for: one bag of documents, where a chunk map places them, what clashes, what a
+//! command does to it, the orders in which commands and marks may come, and the plain program that serves an order.
 #![tactic(auto)]
 
 mod answer;
 mod clash;
 mod collection;
-mod identity;
 mod laws;
 mod outcome;
 mod placement;
-#[cfg(test)]
-mod placement_tests;
 mod plain;
-#[cfg(test)]
-mod plain_tests;
 mod seat;
 mod state;
 

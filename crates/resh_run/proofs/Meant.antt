@@ -14,7 +14,7 @@ use Rattle.resh_setup.specs.declared.plan.Who.{Who}
 use Rattle.resh_model.specs.Licence.{HasLicence, crash_steps}
 use Rattle.resh_model.specs.MarkLaws.{is_failure}
 use Rattle.resh_model.specs.Orders.{IsLawful}
-use Rattle.resh_model.proofs.MarkCauses.{commits_else, one_mark_without_clients}
+use Rattle.resh_model.proofs.orders.MarkCauses.{commits_else, one_mark_without_clients}
 use Rattle.resh_config.specs.ClusterFile.{IsSetup, IsRefused}
 use Rattle.resh_report.specs.Refusals.{refusal_text}
 use Rattle.resh_run.specs.Answer.{said}

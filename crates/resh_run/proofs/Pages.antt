@@ -10,7 +10,7 @@ use Rattle.resh_report.specs.Page.{page_text}
 use Rattle.resh_model.specs.Bag.{Document}
 use Rattle.resh_model.specs.Marks.{bag_of, IsRun}
 use Rattle.resh_report.specs.Lines.{names_of}
-use Rattle.resh_model.proofs.OneMark.{one_lawful, one_page, one_well}
+use Rattle.resh_model.proofs.orders.OneMark.{one_lawful, one_page, one_well}
 use Rattle.resh_run.specs.Top.{is_unbuilt}
 use Rattle.resh_run.specs.Said.{IsPage}
 

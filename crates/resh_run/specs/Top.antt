@@ -46,7 +46,8 @@ no_memory_text = line (codes "no memory")
 -- clients, steps and a plan aren't built yet
 abbrev pub is_unbuilt : Setup → Bool
 is_unbuilt setup =
-    nat_lt 0 (length setup.clients) || (nat_lt 0 (length setup.steps) || (nat_lt 0 (length setup.plan) || setup.unbuilt))
+    nat_lt 0 (length setup.clients) || (nat_lt 0 (length setup.steps)
+        || (nat_lt 0 (length setup.plan) || setup.unbuilt))
 
 abbrev pub status_of : End → ℕ
 status_of Committed = 0
@@ -114,3 +115,8 @@ pub record IsOutcome (words : List (String Global)) (source sink : Seen) (outcom
   pub text : List ℕ
   pub means : Means words source (said_in outcome text)
   pub sent : IsSent sink text outcome
+
+-- a call of these words, source and sink ended with this status
+abbrev pub EndsWith : List (String Global) → Seen → Seen → ℕ → Type 0
+EndsWith words source sink status =
+    (outcome : Outcome) × IsOutcome words source sink outcome × (outcome.status ≡ status)

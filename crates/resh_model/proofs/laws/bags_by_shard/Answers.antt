@@ -1,4 +1,4 @@
-use Rattle.resh_model.proofs.ByShard.{leaves_other_parts, moves_by_halves, reads_by_shard}
+use Rattle.resh_model.proofs.shards.ByShard.{leaves_other_parts, moves_by_halves, reads_by_shard}
 use Rattle.resh_model.proofs.laws.bags_by_shard.Goals as goal
 
 pub returns-clause-reads : goal.returns-clause-reads

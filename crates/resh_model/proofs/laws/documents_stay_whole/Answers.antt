@@ -1,4 +1,4 @@
-use Rattle.resh_model.proofs.WholeHeld.{stays_whole, update_keeps_id}
+use Rattle.resh_model.proofs.bags.WholeHeld.{stays_whole, update_keeps_id}
 use Rattle.resh_model.proofs.laws.documents_stay_whole.Goals as goal
 
 pub returns-clause-whole : goal.returns-clause-whole

@@ -1,4 +1,4 @@
-use Rattle.resh_model.proofs.MarkCauses.{commits_else, ends_have_causes, one_mark_without_clients}
+use Rattle.resh_model.proofs.orders.MarkCauses.{commits_else, ends_have_causes, one_mark_without_clients}
 use Rattle.resh_model.proofs.laws.ends_have_causes.Goals as goal
 
 pub returns-clause-cause : goal.returns-clause-cause

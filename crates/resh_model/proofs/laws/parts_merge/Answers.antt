@@ -1,4 +1,4 @@
-use Rattle.resh_model.proofs.Merged.{parts_merge}
+use Rattle.resh_model.proofs.shards.Merged.{parts_merge}
 use Rattle.resh_model.proofs.laws.parts_merge.Goals as goal
 
 pub returns : goal.returns
