@@ -2,6 +2,7 @@
 use Rattle.std.specs.Prelude.{ℕ, Bool, cond, not, ◌&&◌, ◌==◌, List, ◌∷◌, length, take, filter, codes, Option, Some, None, is_some, Result, Ok, Err}
 use Rattle.std.specs.List.{list_all}
 use Rattle.std.specs.Ordering.{is_eq}
+pub use Rattle.resh_value.specs.Limits.{text_limit}
 use Rattle.resh_value.specs.Lookup.{field_of, id_of}
 use Rattle.resh_value.specs.Order.{compare_documents}
 use Rattle.resh_chunks.specs.Chunks.{Chunks, owner_of}
@@ -14,16 +15,13 @@ use Rattle.resh_shard.specs.declared.reply.Reply.{Reply}
 use Rattle.resh_shard.specs.declared.reply.Reply.TheVariants.{Inserted, Duplicate, Matched, NotFound, Deleted, Found, Counted, NoKey, Refused, AbortTooLate}
 use Rattle.resh_model.specs.Bag.{Bag, Document, held, put, without, documents}
 
--- what a command does: a document comes to a shard, one stands in the place of another, one goes, or nothing but a reply
+-- what a command does: a document comes to a shard, one stands in the place of another, one goes, or nothing but a
+-- reply
 pub data Doing : Type 0 where
   adds : ℕ → Document → Doing
   replaces : ℕ → Document → ℕ → Document → Doing
   removes : ℕ → Document → Doing
   says : Reply → Doing
-
--- the longest text of a document
-abbrev pub text_limit : ℕ
-text_limit = 16384
 
 -- an insert puts the document where its shard doesn't hold the `_id`
 abbrev pub insert_doing : ℕ → Document → Option Document → Doing
@@ -61,9 +59,13 @@ abbrev pub matching_all : Bag → Document → List Document
 matching_all bag f = filter (matches f) (documents bag)
 
 abbrev pub doing : Chunks → Bag → Command → Doing
-doing chunks bag (Insert document) = insert_doing (owner_of chunks document) document (held bag (owner_of chunks document) (id_of document))
-doing chunks bag (Update f update) = with_key chunks f (on_hit (λ document. result_doing chunks bag (owner_of chunks f) document (updated text_limit update document)) (hit chunks bag f))
-doing chunks bag (Delete f) = with_key chunks f (on_hit (λ document. removes (owner_of chunks f) document) (hit chunks bag f))
+doing chunks bag (Insert document) = insert_doing (owner_of chunks document) document
+    (held bag (owner_of chunks document) (id_of document))
+doing chunks bag (Update f update) = with_key chunks f (on_hit
+    (λ document. result_doing chunks bag (owner_of chunks f) document (updated text_limit update document))
+    (hit chunks bag f))
+doing chunks bag (Delete f) = with_key chunks f (on_hit (λ document. removes (owner_of chunks f) document)
+    (hit chunks bag f))
 doing chunks bag (Find f) = says (Found (length (matching_all bag f)) (take 10 (matching_all bag f)))
 doing chunks bag (Count f) = says (Counted (length (matching_all bag f)))
 doing chunks bag Abort = says AbortTooLate

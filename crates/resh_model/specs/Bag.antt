@@ -50,4 +50,5 @@ HasDistinctPlaces chunks ds = IsDistinct (eq_by_cmp place_cmp) (map (place_of ch
 -- what the bag holds stands at the place that the map gives it
 pub record IsPlaced (chunks : Chunks) (bag : Bag) : Type 0 where
   pub by_id : (shard : ℕ) (id : Value) (document : Document) → held bag shard id ≡ Some document → id_of document ≡ id
-  pub by_owner : (shard : ℕ) (id : Value) (document : Document) → held bag shard id ≡ Some document → owner_of chunks document ≡ shard
+  pub by_owner : (shard : ℕ) (id : Value) (document : Document) → held bag shard id ≡ Some document
+      → owner_of chunks document ≡ shard

@@ -20,10 +20,13 @@ gathered entries = from_sorted (map keyed entries)
 -- the entry of a shard and an `_id` stands at a place: it is found, replaced and removed there
 pub record StandsAt (entries : List Entry) (shard : ℕ) (id : Value) (place : ℕ) : Type 0 where
   pub within : place < length entries
-  pub found : (entry : Entry) → slice_get entries place ≡ Some entry → held (gathered entries) shard id ≡ Some entry.document
+  pub found : (entry : Entry) → slice_get entries place ≡ Some entry
+      → held (gathered entries) shard id ≡ Some entry.document
   pub named : (entry : Entry) → slice_get entries place ≡ Some entry → id_of entry.document ≡ id
-  pub replaced : (entry : Entry) → entry.shard.0 ≡ shard → id_of entry.document ≡ id → gathered (slice_set entries place entry) ≡ put (gathered entries) shard entry.document
-  pub rises : (entry : Entry) → entry.shard.0 ≡ shard → id_of entry.document ≡ id → IsInOrder (slice_set entries place entry)
+  pub replaced : (entry : Entry) → entry.shard.0 ≡ shard → id_of entry.document ≡ id
+      → gathered (slice_set entries place entry) ≡ put (gathered entries) shard entry.document
+  pub rises : (entry : Entry) → entry.shard.0 ≡ shard → id_of entry.document ≡ id
+      → IsInOrder (slice_set entries place entry)
   pub removed : gathered (remove entries place) ≡ without (gathered entries) shard id
   pub rest_rises : IsInOrder (remove entries place)
 
@@ -31,6 +34,8 @@ pub record StandsAt (entries : List Entry) (shard : ℕ) (id : Value) (place : �
 pub record GoesTo (entries : List Entry) (shard : ℕ) (id : Value) (place : ℕ) : Type 0 where
   pub within : place ≤ length entries
   pub missing : held (gathered entries) shard id ≡ None
-  pub inserted : (entry : Entry) → entry.shard.0 ≡ shard → id_of entry.document ≡ id → gathered (insert entries place entry) ≡ put (gathered entries) shard entry.document
-  pub rises : (entry : Entry) → entry.shard.0 ≡ shard → id_of entry.document ≡ id → IsInOrder (insert entries place entry)
+  pub inserted : (entry : Entry) → entry.shard.0 ≡ shard → id_of entry.document ≡ id
+      → gathered (insert entries place entry) ≡ put (gathered entries) shard entry.document
+  pub rises : (entry : Entry) → entry.shard.0 ≡ shard → id_of entry.document ≡ id
+      → IsInOrder (insert entries place entry)
   pub kept : gathered entries ≡ without (gathered entries) shard id

@@ -23,7 +23,8 @@ pub record IsAdded (chunks : Chunks) (bag : Bag) (command : Command) (shard : �
   pub free : held bag shard (id_of document) ≡ None
 
 -- an update, whose result comes to its owner: the shard that it left, or one that held no other of its `_id`
-pub record IsReplaced (chunks : Chunks) (bag : Bag) (command : Command) (shard : ℕ) (document : Document) (target : ℕ) (result : Document) : Type 0 where
+pub record IsReplaced (chunks : Chunks) (bag : Bag) (command : Command) (shard : ℕ) (document : Document)
+    (target : ℕ) (result : Document) : Type 0 where
   pub filter : Document
   pub update : List Action
   pub is : command ≡ Update filter update
@@ -42,7 +43,9 @@ pub record IsRemoved (chunks : Chunks) (bag : Bag) (command : Command) (shard : 
 pub record DoingsFind : Type 0 where
   pub added : (chunks : Chunks) (bag : Bag) (command : Command) (shard : ℕ) (document : Document)
       → doing chunks bag command ≡ adds shard document → IsAdded chunks bag command shard document
-  pub replaced : (chunks : Chunks) (bag : Bag) (command : Command) (shard : ℕ) (document : Document) (target : ℕ) (result : Document)
-      → doing chunks bag command ≡ replaces shard document target result → IsReplaced chunks bag command shard document target result
+  pub replaced : (chunks : Chunks) (bag : Bag) (command : Command) (shard : ℕ) (document : Document) (target : ℕ)
+      (result : Document)
+      → doing chunks bag command ≡ replaces shard document target result
+      → IsReplaced chunks bag command shard document target result
   pub removed : (chunks : Chunks) (bag : Bag) (command : Command) (shard : ℕ) (document : Document)
       → doing chunks bag command ≡ removes shard document → IsRemoved chunks bag command shard document

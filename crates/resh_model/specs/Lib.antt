@@ -5,11 +5,15 @@ pub mod Entries
 pub mod Findings
 pub mod Laws
 pub mod Licence
+pub mod MarkLaws
 pub mod Marks
 pub mod OrderLaws
 pub mod Orders
+pub mod PartLaws
+pub mod Parts
 pub mod PlaceOrder
 pub mod Placement
 pub mod Runs
 pub mod Seats
 pub mod States
+pub mod WholeLaws

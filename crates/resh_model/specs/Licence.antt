@@ -1,5 +1,5 @@
 -- Which failures a plan and the file's crashes give leave to.
-use Rattle.std.specs.Prelude.{◌≡◌, ⊤, ℕ, ◌+◌, ◌<◌, ◌≤◌, Bool, true, false, ◌&&◌, ◌==◌, nat_le, List, length, find, Option, Some, None}
+use Rattle.std.specs.Prelude.{◌≡◌, ⊤, ℕ, ◌+◌, ◌<◌, ◌≤◌, Bool, true, false, ◌&&◌, ◌==◌, nat_le, List, length, filter, find, Option, Some, None}
 use Rattle.std.specs.List.{All, AllPairs, Contains}
 use Rattle.std.specs.Option.{option_map_or}
 use Rattle.resh_luck.specs.declared.row.Kind.{Kind}
@@ -17,6 +17,9 @@ use Rattle.resh_coord.specs.declared.cause.Why.{Why}
 use Rattle.resh_coord.specs.declared.cause.Why.TheVariants as why
 use Rattle.resh_setup.specs.declared.plan.Planned.{Planned}
 use Rattle.resh_setup.specs.declared.plan.Who.{Who}
+use Rattle.resh_setup.specs.declared.setup.Setup.{Setup}
+use Rattle.resh_setup.specs.declared.event.Event.{Event}
+use Rattle.resh_setup.specs.declared.event.Event.TheVariants.{Crash}
 use Rattle.resh_setup.specs.declared.plan.Who.TheVariants.{Coordinator, Link, Lane}
 
 abbrev pub same_kind : Kind → Kind → Bool
@@ -33,7 +36,8 @@ same_who who other = false
 
 -- the row speaks of the step of this activity, kind and number, counted from 1
 abbrev pub has_step : Who → Kind → ℕ → Planned → Bool
-has_step who kind number p = same_who p.who who && same_kind p.row.kind kind && nat_le p.row.first number && nat_le number p.row.last
+has_step who kind number p = same_who p.who who && same_kind p.row.kind kind && nat_le p.row.first number
+    && nat_le number p.row.last
 
 -- what a step meets: the first row that has it says so, and without one nothing happens to it
 abbrev pub met : List Planned → Who → Kind → ℕ → Option PlanFate
@@ -92,6 +96,19 @@ abbrev pub IsLicensed : List Planned → (Who → ℕ) → Node → Why → Type
 IsLicensed plan crash_steps n why.Commit = FailsToCommit plan n
 IsLicensed plan crash_steps n why.Link = LosesLink plan n
 IsLicensed plan crash_steps n why.Crashes = CrashesOften plan crash_steps n
+
+-- no failure is licensed
+abbrev pub LicensesNone : List Planned → (Who → ℕ) → Type 0
+LicensesNone plan crash_steps = (n : Node) (w : Why) → IsLicensed plan crash_steps n w → ⊥
+
+-- the step crashes the link
+abbrev pub is_crash_of : Who → Event → Bool
+is_crash_of (Link r d) (Crash s e) = (r.0 == s.0) && (d.0 == e.0)
+is_crash_of who event = false
+
+-- how many steps of a file crash each link
+abbrev pub crash_steps : Setup → Who → ℕ
+crash_steps setup who = length (filter (is_crash_of who) setup.steps)
 
 -- an end names a failure only where it is licensed
 abbrev pub HasLicence : List Planned → (Who → ℕ) → End → Type 0

@@ -21,7 +21,8 @@ clash_at shard id = Clash (record { 0 = shard }) id
 
 -- Where no clash stands, the collection switches, and each shard holds its part by the new map.
 -- Else the first clash drops it, and each shard holds its part by the old map.
-pub data IsRun (old_map new_map : Chunks) (bag : Bag) (order : List Turn) (end : End) (holdings : List (List Document)) : Type 0 where
+pub data IsRun (old_map new_map : Chunks) (bag : Bag) (order : List Turn) (end : End)
+    (holdings : List (List Document)) : Type 0 where
   switched : HasNoClash new_map bag → order ≡ Switch ∷ [] → end ≡ Committed → holdings ≡ parts new_map bag
       → IsRun old_map new_map bag order end holdings
   dropped : (shard : ℕ) (id : Value) → IsFirstClash new_map bag shard id

@@ -31,7 +31,12 @@ pub record State : Type 0 where
   pub answers : List (List Reply)
 
 abbrev pub opening : Setup → State
-opening setup = record { bag = opening_bag setup.old_map setup.documents; map = setup.old_map; fate = undecided; answers = map (λ client. []) setup.clients }
+opening setup = record {
+  bag = opening_bag setup.old_map setup.documents;
+  map = setup.old_map;
+  fate = undecided;
+  answers = map (λ client. []) setup.clients;
+}
 
 -- what a client was answered
 abbrev pub replies_to : State → ℕ → List Reply
@@ -43,15 +48,18 @@ commands_of None = []
 
 -- the command that a client asks next, where it has one left
 abbrev pub next_command : Setup → State → ℕ → Option Command
-next_command setup state client = slice_get (commands_of (slice_get setup.clients client)) (length (replies_to state client))
+next_command setup state client = slice_get (commands_of (slice_get setup.clients client))
+    (length (replies_to state client))
 
 -- the state with one more reply to a client
 abbrev pub replied : ℕ → Reply → State → State
-replied client reply state = record state { answers = slice_set state.answers client (replies_to state client ++ reply ∷ []) }
+replied client reply state =
+    record state { answers = slice_set state.answers client (replies_to state client ++ reply ∷ []) }
 
 -- an abort is accepted where nothing has been decided
 abbrev pub abort_asked : ℕ → Fate → State → State
-abort_asked client undecided state = replied client reply.AbortAccepted (record state { fate = asked client (length (replies_to state client) + 1) })
+abort_asked client undecided state = replied client reply.AbortAccepted
+    (record state { fate = asked client (length (replies_to state client) + 1) })
 abort_asked client (asked other number) state = replied client reply.AbortTooLate state
 abort_asked client (ended end) state = replied client reply.AbortTooLate state
 
@@ -68,7 +76,8 @@ is_abort (Count filter) = false
 is_abort Abort = true
 
 abbrev pub answered : ℕ → Command → State → State
-answered client command state = cond (is_abort command) (abort_asked client state.fate state) (done client (doing state.map state.bag command) state)
+answered client command state = cond (is_abort command) (abort_asked client state.fate state)
+    (done client (doing state.map state.bag command) state)
 
 -- a client's turn: a refused command changes nothing
 abbrev pub served : ℕ → Bool → Option Command → State → State
@@ -78,7 +87,11 @@ served client false (Some command) state = answered client command state
 
 -- the new map is in force, and each document stands under the shard that it gives
 abbrev pub switched : Setup → State → State
-switched setup state = record state { bag = opening_bag setup.new_map (documents state.bag); map = setup.new_map; fate = ended Committed }
+switched setup state = record state {
+  bag = opening_bag setup.new_map (documents state.bag);
+  map = setup.new_map;
+  fate = ended Committed;
+}
 
 abbrev pub dropped : Cause → State → State
 dropped cause state = record state { fate = ended (Aborted cause) }

@@ -10,7 +10,8 @@ use Rattle.resh_value.specs.declared.value.Value.{Value}
 use Rattle.resh_model.specs.Bag.{place_cmp}
 
 pub place_total : IsTotalOrder place_cmp
-place_total = then_total (on_total (λ (p : Value × ℕ). p.0) compare_total) (on_total (λ (p : Value × ℕ). p.1) nat_cmp_total)
+place_total = then_total (on_total (λ (p : Value × ℕ). p.0) compare_total)
+    (on_total (λ (p : Value × ℕ). p.1) nat_cmp_total)
 
 pub place_same : IsAntisymmetric place_cmp
 place_same = exact_pairs compare_of nat_cmp compare_same nat_cmp-IsAntisymmetric

@@ -14,7 +14,8 @@ use Rattle.resh_model.specs.Orders.{last_state, holdings_of, IsLawful}
 
 -- the order, the replies to each client, each shard's documents and the end
 abbrev pub page_of : Setup → List Turn → End → List ℕ
-page_of setup order end = page_text setup.shards (names_of setup.clients) order end (last_state setup order).answers (holdings_of (last_state setup order))
+page_of setup order end = page_text setup.shards (names_of setup.clients) order end (last_state setup order).answers
+    (holdings_of (last_state setup order))
 
 -- without clients there is the mark alone: the switch where no clash stands, and else the drop for the first clash
 pub data IsMarked (setup : Setup) (order : List Turn) (end : End) : Type 0 where

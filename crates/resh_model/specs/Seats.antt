@@ -25,7 +25,8 @@ abbrev pub seat_cmp : Seat → Seat → Ordering
 seat_cmp a b = ordering_then (target_cmp a b) (nat_cmp a.from.0 b.from.0)
 
 pub clash_total : IsTotalOrder clash_cmp
-clash_total = then_total (on_total (λ (t : ℕ × Value). t.0) nat_cmp_total) (on_total (λ (t : ℕ × Value). t.1) compare_total)
+clash_total = then_total (on_total (λ (t : ℕ × Value). t.0) nat_cmp_total)
+    (on_total (λ (t : ℕ × Value). t.1) compare_total)
 
 pub target_total : IsTotalOrder target_cmp
 target_total = on_total target clash_total
@@ -51,7 +52,8 @@ sent_back seat = record seat { shard = seat.from }
 
 -- the documents of the seats, shard by shard, from shard 0 on
 abbrev pub handed_out : ℕ → List Seat → List (List Document)
-handed_out shards seats = map (λ shard. map (λ s. s.document) (filter (λ s. s.shard.0 == shard) seats)) (range_with_len 0 shards)
+handed_out shards seats = map (λ shard. map (λ s. s.document) (filter (λ s. s.shard.0 == shard) seats))
+    (range_with_len 0 shards)
 
 abbrev pub same_target : Seat → Seat → Bool
 same_target a b = is_eq (target_cmp a b)
@@ -59,7 +61,8 @@ same_target a b = is_eq (target_cmp a b)
 -- the neighbours from a place on have one target, and none before them have
 pub record TiesAt (seats : List Seat) (place : ℕ) : Type 0 where
   pub within : place + 1 < length seats
-  pub tied : (a b : Seat) → slice_get seats place ≡ Some a → slice_get seats (place + 1) ≡ Some b → same_target a b ≡ true
+  pub tied : (a b : Seat) → slice_get seats place ≡ Some a → slice_get seats (place + 1) ≡ Some b
+      → same_target a b ≡ true
   pub untied : AllAdjacentBelow (λ a b. same_target a b ≡ false) seats (place + 1)
 
 -- the first neighbours of one target

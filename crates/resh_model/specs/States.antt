@@ -15,7 +15,12 @@ fate_of (Asked client number) = orders.asked client number
 fate_of (Ended end) = orders.ended end
 
 abbrev pub told : State → orders.State
-told state = record { bag = state.collection; map = state.map; fate = fate_of state.fate; answers = state.answers.items }
+told state = record {
+  bag = state.collection;
+  map = state.map;
+  fate = fate_of state.fate;
+  answers = state.answers.items;
+}
 
 -- a clash that was found is of a shard and an `_id`
 abbrev pub is_at : Option Clash → ℕ → Value → Bool

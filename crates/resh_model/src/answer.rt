@@ -12,16 +12,13 @@ ghost use Rattle.resh_model.specs.Answer.{bag_after, doing, has_key, hit, insert
 ghost use Rattle.resh_model.specs.Doings.{meant};
 
 use crate::collection::{Collection, Entry};
-use crate::identity::id_of;
 use resh_chunks::ChunkMap;
 use resh_filter::Filter;
 use resh_ops::{ChangeFault, Update};
 use resh_shard::{Command, Reply};
-use resh_value::{Document, Documents, NoMemory, Sequence, ShardId, Value, Words};
+use resh_value::{Document, Documents, NoMemory, Sequence, ShardId, TEXT_LIMIT, Value, Words};
 use std::alloc::Global;
 
-/// The longest text of a document, in bytes.
-const TEXT_LIMIT: u32 = 16_384;
 /// So many documents are shown of those that match.
 const MOST_SHOWN: u64 = 10;
 
@@ -84,11 +81,11 @@ fn perform(collection: &mut Collection, doing: Doing) -> Result<Reply, NoMemory>
             result,
         } => {
             let changed = document != result;
-            collection.replace(shard, id_of(&document, &null), target, result)?;
+            collection.replace(shard, document.id_or(&null), target, result)?;
             Ok(Reply::Matched { changed })
         }
         Doing::Removes { shard, document } => {
-            collection.without(shard, id_of(&document, &null));
+            collection.without(shard, document.id_or(&null));
             Ok(Reply::Deleted)
         }
         Doing::Says(reply) => Ok(reply),
@@ -120,7 +117,8 @@ fn doing_of(
 }
 
 fn insert(map: &ChunkMap, collection: &Collection, document: &Document) -> Result<Doing, NoMemory>
-    ensures { IfOk result (λ d. meant d ≡ insert_doing (owner_of map.now document.now) document.now (held collection.now (owner_of map.now document.now) (id_of document.now))) }
+    ensures { IfOk result (λ d. meant d ≡ insert_doing (owner_of map.now document.now) document.now
+        (held collection.now (owner_of map.now document.now) (id_of document.now))) }
 {
     let shard = map.owner_of(document);
     match collection.held_like(shard, document) {
@@ -133,7 +131,8 @@ fn insert(map: &ChunkMap, collection: &Collection, document: &Document) -> Resul
 }
 
 fn delete(map: &ChunkMap, collection: &Collection, filter: &Filter) -> Result<Doing, NoMemory>
-    ensures { IfOk result (λ d. meant d ≡ with_key map.now filter.now (on_hit (λ document. removes (owner_of map.now filter.now) document) (hit map.now collection.now filter.now))) }
+    ensures { IfOk result (λ d. meant d ≡ with_key map.now filter.now
+        (on_hit (λ document. removes (owner_of map.now filter.now) document) (hit map.now collection.now filter.now))) }
 {
     if !has_key(map, filter) {
         return Ok(Doing::Says(Reply::NoKey));
@@ -153,7 +152,9 @@ fn change(
     filter: &Filter,
     update: &Update,
 ) -> Result<Doing, NoMemory>
-    ensures { IfOk result (λ d. meant d ≡ with_key map.now filter.now (on_hit (λ document. result_doing map.now collection.now (owner_of map.now filter.now) document (updated text_limit update.now document)) (hit map.now collection.now filter.now))) }
+    ensures { IfOk result (λ d. meant d ≡ with_key map.now filter.now
+        (on_hit (λ document. result_doing map.now collection.now (owner_of map.now filter.now) document
+        (updated text_limit update.now document)) (hit map.now collection.now filter.now))) }
 {
     if !has_key(map, filter) {
         return Ok(Doing::Says(Reply::NoKey));
@@ -205,7 +206,8 @@ fn change_one(
     document: &Document,
     update: &Update,
 ) -> Result<Doing, NoMemory>
-    ensures { IfOk result (λ d. meant d ≡ result_doing map.now collection.now shard.0 document.now (updated text_limit update.now document.now)) }
+    ensures { IfOk result (λ d. meant d ≡ result_doing map.now collection.now shard.0 document.now
+        (updated text_limit update.now document.now)) }
 {
     match changed(update, document) {
         Err(ChangeFault::NoMemory) => Err(NoMemory),

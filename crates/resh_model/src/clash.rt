@@ -6,7 +6,6 @@ ghost use Rattle.resh_model.specs.Bag.{IsPlaced};
 ghost use Rattle.resh_model.specs.Placement.{HasNoClash, IsFirstClash};
 
 use crate::collection::Collection;
-use crate::identity::id_of;
 use crate::seat::{Seat, first_tie, seats_of};
 use resh_chunks::ChunkMap;
 use resh_value::{NoMemory, ShardId, Value};
@@ -27,7 +26,8 @@ pub(crate) fn first_clash(
     collection: &Collection,
 ) -> Result<Option<Clash>, NoMemory>
     requires { IsPlaced map.now collection.now }
-    ensures { IfOk result (λ clash. MatchOption clash (HasNoClash new_map.now collection.now) (λ c. IsFirstClash new_map.now collection.now c.shard.0 c.id)) }
+    ensures { IfOk result (λ clash. MatchOption clash (HasNoClash new_map.now collection.now)
+        (λ c. IsFirstClash new_map.now collection.now c.shard.0 c.id)) }
 {
     let documents = collection.documents(alloc)?;
     let seats = seats_of(alloc, map, new_map, documents)?;
@@ -44,9 +44,8 @@ fn clash_of(alloc: Global, seat: &Seat) -> Result<Clash, NoMemory>
     ensures shard { IfOk result (λ clash. clash.shard ≡ seat.now.shard) }
     ensures id { IfOk result (λ clash. clash.id ≡ id_of seat.now.document) }
 {
-    let null = Value::Null;
     Ok(Clash {
         shard: seat.shard,
-        id: id_of(&seat.document, &null).copy(alloc)?,
+        id: seat.document.copy_id(alloc)?,
     })
 }

@@ -7,7 +7,6 @@ ghost use Rattle.resh_value.specs.Lookup.{id_of};
 ghost use Rattle.resh_model.specs.Bag.{place_cmp, held, put, without, documents, opening_bag};
 ghost use Rattle.resh_model.specs.Entries.{IsInOrder, gathered, StandsAt, GoesTo};
 
-use crate::identity::id_of;
 use resh_chunks::ChunkMap;
 use resh_value::{Document, Documents, NoMemory, Sequence, ShardId, Value, compare};
 use std::alloc::Global;
@@ -36,7 +35,8 @@ impl Model for Collection {
 
     ghost Value = { Bag };
 
-    ghost coded = { code (coded× value.the_row.coded coded_ℕ) (coded_list (coded× (coded_list coded_ℕ) value.the_row.coded)) };
+    ghost coded = { code (coded× value.the_row.coded coded_ℕ)
+        (coded_list (coded× (coded_list coded_ℕ) value.the_row.coded)) };
 
     ghost view = { λ c. gathered c.entries.items };
 
@@ -102,7 +102,7 @@ impl Collection {
         ensures { option_copied result ≡ held self.now shard.0 (id_of document.now) }
     {
         let null = Value::Null;
-        self.held(shard, id_of(document, &null))
+        self.held(shard, document.id_or(&null))
     }
 
     /// Puts a document on a shard, in the place of the one of its `_id`. Want of memory leaves all as it was.
@@ -162,23 +162,20 @@ fn compare_place(shard: ShardId, id: &Value, entry: &Entry) -> Ordering
     ensures { result ≡ place_cmp (id.now, shard.0) (id_of entry.now.document, entry.now.shard.0) }
 {
     let null = Value::Null;
-    compare(id, id_of(&entry.document, &null)).then(shard.0.cmp(&entry.shard.0))
+    compare(id, entry.document.id_or(&null)).then(shard.0.cmp(&entry.shard.0))
 }
 
 /// Puts an entry in its place. It needs no memory where the list has room.
 fn put_entry(entries: &mut Vec<Entry>, entry: Entry) -> Result<(), NoMemory>
     requires { IsInOrder entries.old.items }
-    ensures ok { OnOk result (gathered entries.new.items ≡ put (gathered entries.old.items) entry.shard.0 entry.document) }
+    ensures ok { OnOk result (gathered entries.new.items ≡ put
+        (gathered entries.old.items) entry.shard.0 entry.document) }
     ensures unchanged { OnErr result (entries.new.items ≡ entries.old.items) }
     ensures rises { IsInOrder entries.new.items }
     ensures room { vec_len entries.old < vec_capacity entries.old → IsOk result }
 {
     let null = Value::Null;
-    match place_of(
-        entries.as_slice(),
-        entry.shard,
-        id_of(&entry.document, &null),
-    ) {
+    match place_of(entries.as_slice(), entry.shard, entry.document.id_or(&null)) {
         Ok(place) => {
             entries[place] = entry;
             Ok(())
@@ -214,7 +211,8 @@ fn replace_entry(
     entry: Entry,
 ) -> Result<(), NoMemory>
     requires { IsInOrder entries.old.items }
-    ensures ok { OnOk result (gathered entries.new.items ≡ put (without (gathered entries.old.items) shard.0 id.now) entry.shard.0 entry.document) }
+    ensures ok { OnOk result (gathered entries.new.items ≡ put
+        (without (gathered entries.old.items) shard.0 id.now) entry.shard.0 entry.document) }
     ensures unchanged { OnErr result (entries.new.items ≡ entries.old.items) }
     ensures rises { IsInOrder entries.new.items }
 {

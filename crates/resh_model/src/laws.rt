@@ -2,6 +2,9 @@
 
 ghost use Rattle.resh_model.specs.Findings.{DoingsFind};
 ghost use Rattle.resh_model.specs.Laws.{KeepsAll, NoClashInPlace, OpensPlaced, OpensWhole, PartsRise, PutsOne, RemovesOne, SameByPlace};
+ghost use Rattle.resh_model.specs.MarkLaws.{CommitsElse, EndsHaveCauses, OneMarkWithoutClients};
+ghost use Rattle.resh_model.specs.PartLaws.{AnsweredByTargets, ClashesByRecipient, LeavesOtherParts, MovesByHalves, PartsMerge, ReadsByShard};
+ghost use Rattle.resh_model.specs.WholeLaws.{GrowsByTurns, StaysWhole, UpdateKeepsId};
 ghost use Rattle.resh_model.specs.OrderLaws.{AnswersEachOnce, AnswersOne, AsksEachOnce, DropLeaves, DropsAtOnce, DropsOnlyThere, HasOneEnd, HasOneMark, HasTurnForEach, HoldingsKeepAll, HoldingsRise, RefusedLeave, RepliesLeaveBag, RunsAreLawful, StaysPlaced, SwitchKeeps};
 
 /// A bag is what stands at its places, and puts and removals act place by place.
@@ -42,8 +45,8 @@ pub fn orders_serve_each_once()
     ensures one { AnswersOne }
 {}
 
-/// One mark stands in a lawful order, the one of its end. An accepted abort is followed at once by its drop, which stands
-/// nowhere else.
+/// One mark stands in a lawful order, the one of its end. An accepted abort is followed at once by its drop, which
+/// stands nowhere else.
 pub fn orders_have_one_mark()
     ensures mark { HasOneMark }
     ensures at_once { DropsAtOnce }
@@ -69,8 +72,8 @@ pub fn marks_keep_the_documents()
     ensures switch { SwitchKeeps }
 {}
 
-/// Each document stands where the map in force places it, so no shard holds an `_id` twice, and together the shards hold
-/// each document once.
+/// Each document stands where the map in force places it, so no shard holds an `_id` twice, and together the shards
+/// hold each document once.
 pub fn walks_stay_placed()
     ensures placed { StaysPlaced }
     ensures rise { HoldingsRise }
@@ -80,4 +83,46 @@ pub fn walks_stay_placed()
 /// A run without clients is a lawful order of one mark.
 pub fn runs_are_lawful()
     ensures { RunsAreLawful }
+{}
+
+/// The end of a lawful order has its cause at the mark: a commit that no clash stands, a drop that clash or that abort.
+/// Without clients and without failure there is no turn but the mark that the opening collection asks for.
+pub fn ends_have_causes()
+    ensures cause { EndsHaveCauses }
+    ensures commits { CommitsElse }
+    ensures one_mark { OneMarkWithoutClients }
+{}
+
+/// A bag is read by shard; what is done on one shard leaves the others' parts; the two halves of a move are the move.
+pub fn bags_by_shard()
+    ensures reads { ReadsByShard }
+    ensures others { LeavesOtherParts }
+    ensures halves { MovesByHalves }
+{}
+
+/// A command does what it does by what its targets hold: the owner of its key, or shard 0 or all, and the owner of an
+/// update's result.
+pub fn commands_by_targets()
+    ensures { AnsweredByTargets }
+{}
+
+/// The shards' own finds and counts merge to those of the bag.
+pub fn parts_merge()
+    ensures { PartsMerge }
+{}
+
+/// A clash is told by the part of its recipient, and the first one by the first recipient that has one.
+pub fn clashes_by_recipient()
+    ensures { ClashesByRecipient }
+{}
+
+/// Each held document keeps its `_id` and its rising names, and an update its `_id`.
+pub fn documents_stay_whole()
+    ensures whole { StaysWhole }
+    ensures ids { UpdateKeepsId }
+{}
+
+/// An order that was lawful so far grows by each turn that may come.
+pub fn orders_grow()
+    ensures { GrowsByTurns }
 {}

@@ -6,7 +6,6 @@ ghost use Rattle.resh_value.specs.Lookup.{id_of};
 ghost use Rattle.resh_model.specs.Bag.{HasDistinctPlaces, opening_bag};
 ghost use Rattle.resh_model.specs.Marks.{IsRun, clash_at};
 
-use crate::identity::id_of;
 use crate::seat::{Seat, first_tie, hand_out, seats_back, seats_of};
 use resh_chunks::ChunkMap;
 use resh_coord::{Cause, End};
@@ -30,7 +29,8 @@ pub fn run_of(
     documents: Documents,
 ) -> Result<Run, NoMemory>
     requires { HasDistinctPlaces old_map.now documents }
-    ensures { IfOk result (λ r. IsRun old_map.now new_map.now (opening_bag old_map.now documents) r.order r.end r.holdings) }
+    ensures { IfOk result (λ r. IsRun old_map.now new_map.now
+        (opening_bag old_map.now documents) r.order r.end r.holdings) }
 {
     let seats = seats_of(alloc, old_map, new_map, documents)?;
     match first_tie(seats.as_slice()) {
@@ -60,10 +60,9 @@ pub fn run_of(
 fn cause_of(alloc: Global, seat: &Seat) -> Result<Cause, NoMemory>
     ensures { IfOk result (λ cause. cause ≡ clash_at seat.now.shard.0 (id_of seat.now.document)) }
 {
-    let null = Value::Null;
     Ok(Cause::Clash {
         shard: seat.shard,
-        id: id_of(&seat.document, &null).copy(alloc)?,
+        id: seat.document.copy_id(alloc)?,
     })
 }
 

@@ -24,7 +24,8 @@ use std::alloc::Global;
 pub fn replay(alloc: Global, setup: &Setup, order: &Turns) -> Result<Option<Replay>, NoMemory>
     ensures { IfOk result (λ r. MatchOption r ((end : WhichEnd) → IsLawful setup.now order.now end → ⊥)
         (λ replay. IsLawful setup.now order.now replay.end × (replay.answers ≡ (last_state setup.now order.now).answers)
-        × (replay.holdings ≡ holdings_of (last_state setup.now order.now)) × (replay.page.items ≡ page_of setup.now order.now replay.end))) }
+        × (replay.holdings ≡ holdings_of (last_state setup.now order.now))
+        × (replay.page.items ≡ page_of setup.now order.now replay.end))) }
 {
     match served(alloc, setup, order)? {
         None => Ok(None),
@@ -34,8 +35,11 @@ pub fn replay(alloc: Global, setup: &Setup, order: &Turns) -> Result<Option<Repl
 
 /// With the page of what was served.
 fn shown(alloc: Global, setup: &Setup, order: &Turns, served: Served) -> Result<Replay, NoMemory>
-    ensures { IfOk result (λ replay. (replay.end ≡ served.end) × (replay.answers ≡ served.answers) × (replay.holdings ≡ served.holdings)
-        × (replay.page.items ≡ page_text setup.now.shards (names_of setup.now.clients) order.now served.end served.answers served.holdings)) }
+    ensures { IfOk result (λ replay. (replay.end ≡ served.end) × (replay.answers ≡ served.answers)
+        × (replay.holdings ≡ served.holdings)
+        × (replay.page.items
+        ≡ page_text setup.now.shards
+        (names_of setup.now.clients) order.now served.end served.answers served.holdings)) }
 {
     let Served {
         end,
@@ -53,7 +57,9 @@ fn shown(alloc: Global, setup: &Setup, order: &Turns, served: Served) -> Result<
 
 fn served(alloc: Global, setup: &Setup, order: &Turns) -> Result<Option<Served>, NoMemory>
     ensures { IfOk result (λ r. MatchOption r ((end : WhichEnd) → IsLawful setup.now order.now end → ⊥)
-        (λ served. IsLawful setup.now order.now served.end × (served.answers ≡ (last_state setup.now order.now).answers) × (served.holdings ≡ holdings_of (last_state setup.now order.now)))) }
+        (λ served. IsLawful setup.now order.now served.end × (served.answers
+        ≡ (last_state setup.now order.now).answers) × (served.holdings
+        ≡ holdings_of (last_state setup.now order.now)))) }
 {
     match walk(alloc, setup, order.as_slice())? {
         None => Ok(None),
@@ -79,7 +85,8 @@ fn walk(alloc: Global, setup: &Setup, turns: &[Turn]) -> Result<Option<State>, N
 /// What a state comes to; `None` exactly where it isn't finished.
 fn finish(alloc: Global, setup: &Setup, state: State) -> Result<Option<Served>, NoMemory>
     ensures { IfOk result (λ r. MatchOption r ((end : WhichEnd) → IsFinished setup.now (told state) end → ⊥)
-        (λ served. IsFinished setup.now (told state) served.end × (served.answers ≡ (told state).answers) × (served.holdings ≡ holdings_of (told state)))) }
+        (λ served. IsFinished setup.now (told state) served.end × (served.answers ≡ (told state).answers)
+        × (served.holdings ≡ holdings_of (told state)))) }
 {
     if !all_served(setup, &state) {
         return Ok(None);
@@ -135,7 +142,8 @@ fn part_of(
     entries: &[Entry],
     shard: u32,
 ) -> Result<Documents, NoMemory>
-    ensures { IfOk result (λ part. part ≡ filter (λ d. owner_of chunks.now d == shard) (map (λ e. e.document) entries.now)) }
+    ensures { IfOk result (λ part. part ≡ filter (λ d. owner_of chunks.now d == shard)
+        (map (λ e. e.document) entries.now)) }
 {
     let mut part = Vec::new(alloc);
     for entry in entries {

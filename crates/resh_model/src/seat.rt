@@ -7,7 +7,6 @@ ghost use Rattle.std.specs.List.Sorted.{IsPermutation, IsSorted};
 ghost use Rattle.std.specs.Ordering.{as_partial_cmp, eq_by_cmp};
 ghost use Rattle.resh_model.specs.Seats.{target_cmp, seat_cmp, seat_total, sent_back, IsSeated, IsSeating, handed_out, IsFirstTie};
 
-use crate::identity::id_of;
 use resh_chunks::ChunkMap;
 use resh_setup::Holdings;
 use resh_value::{Document, Documents, NoMemory, Sequence, ShardId, Value, compare};
@@ -32,7 +31,7 @@ impl Seat {
             return shards;
         }
         let null = Value::Null;
-        compare(id_of(&self.document, &null), id_of(&other.document, &null))
+        compare(self.document.id_or(&null), other.document.id_or(&null))
     }
 }
 
@@ -163,7 +162,7 @@ pub(crate) fn hand_out(alloc: Global, seats: Vec<Seat>, shards: u32) -> Result<H
     Ok(Sequence::from_vec(parts))
 }
 
-#[tactic(auto, using(crate::proofs::PlacementHandOut::handed_none))]
+#[tactic(auto, using(crate::proofs::placing::HandedOut::handed_none))]
 fn empty_parts(alloc: Global, shards: u32) -> Result<Vec<Documents>, NoMemory>
     ensures { IfOk result (λ parts. parts.items ≡ handed_out shards []) }
 {

@@ -80,7 +80,8 @@ impl State {
 
     fn allows_switch(&self, alloc: Global, setup: &Setup) -> Result<bool, NoMemory>
         requires { IsPlaced self.now.map self.now.collection }
-        ensures { IfOk result (λ allowed. Decides allowed ((fate_of self.now.fate ≡ undecided) × HasNoClash setup.now.new_map self.now.collection)) }
+        ensures { IfOk result (λ allowed. Decides allowed ((fate_of self.now.fate ≡ undecided)
+            × HasNoClash setup.now.new_map self.now.collection)) }
     {
         if !is_undecided(&self.fate) {
             return Ok(false);
@@ -109,7 +110,8 @@ impl State {
         id: &Value,
     ) -> Result<bool, NoMemory>
         requires { IsPlaced self.now.map self.now.collection }
-        ensures { IfOk result (λ allowed. Decides allowed ((fate_of self.now.fate ≡ undecided) × IsFirstClash setup.now.new_map self.now.collection shard.0 id.now)) }
+        ensures { IfOk result (λ allowed. Decides allowed ((fate_of self.now.fate ≡ undecided)
+            × IsFirstClash setup.now.new_map self.now.collection shard.0 id.now)) }
     {
         if !is_undecided(&self.fate) {
             return Ok(false);
@@ -140,7 +142,8 @@ impl State {
         client: u32,
         refused: bool,
     ) -> Result<(), NoMemory>
-        ensures { OnOk result (told self.new ≡ served client refused (next_command setup.now (told self.old) client) (told self.old)) }
+        ensures { OnOk result (told self.new ≡ served client refused (next_command setup.now (told self.old) client)
+            (told self.old)) }
     {
         match self.next_command(setup, client as u64) {
             None => Ok(()),
@@ -261,7 +264,8 @@ fn count_replies(answers: &[Replies], client: u64) -> u64
 }
 
 fn add_reply(answers: &mut Vec<Replies>, client: u32, reply: Reply) -> Result<(), NoMemory>
-    ensures { OnOk result (answers.new.items ≡ slice_set answers.old.items client (slice_index_or answers.old.items client [] ++ reply ∷ [])) }
+    ensures { OnOk result (answers.new.items ≡ slice_set answers.old.items client
+        (slice_index_or answers.old.items client [] ++ reply ∷ [])) }
 {
     match answers.get_mut(client as usize) {
         Some(replies) => match replies.push(reply) {

@@ -1,4 +1,5 @@
 pub mod ActionLaws
+pub mod Rising
 mod Answered
 mod Differences
 mod NumberLaws

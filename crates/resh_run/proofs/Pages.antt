@@ -10,7 +10,7 @@ use Rattle.resh_report.specs.Page.{page_text}
 use Rattle.resh_model.specs.Bag.{Document}
 use Rattle.resh_model.specs.Marks.{bag_of, IsRun}
 use Rattle.resh_report.specs.Lines.{names_of}
-use Rattle.resh_model.proofs.OneMark.{one_marked, one_lawful, one_page}
+use Rattle.resh_model.proofs.orders.OneMark.{one_lawful, one_page, one_well}
 use Rattle.resh_run.specs.Top.{is_unbuilt}
 use Rattle.resh_run.specs.Said.{IsPage}
 
@@ -26,10 +26,10 @@ pub says_page : (setup : Setup) (order : List Turn) (end : End) (holdings : List
     → IsRun setup.old_map setup.new_map (bag_of setup) order end holdings
     → page ≡ page_text setup.shards (names_of setup.clients) order end [] holdings → IsPage setup order end page
 says_page setup order end holdings page built run is =
-    let none = no_clients setup.clients (nat_lt 0 (length setup.steps) || nat_lt 0 (length setup.plan)) built in
+    let none = no_clients setup.clients _ built in
     record {
       built = built;
-      marked = one_marked setup none order end holdings run;
       lawful = one_lawful setup none order end holdings run;
+      well = one_well setup none order end holdings run;
       text = is ∙ one_page setup none order end holdings run;
     }

@@ -1,26 +1,28 @@
 -- What is to be said before its text is made, case by case.
-use Rattle.std.specs.Prelude.{◌≡◌, ◌≢◌, ℕ, ◌+◌, ◌≤◌, Bool, true, false, List, [], length, Option, Some, None, String}
+use Rattle.std.specs.Prelude.{◌≡◌, ◌≢◌, ℕ, ◌+◌, true, false, List, String}
 use Rattle.std.specs.declared.alloc.Global.{Global}
 use Rattle.resh_io.specs.Causes.{Rose}
-use Rattle.resh_io.specs.Reading.{GivesAll, GivesFirst}
+use Rattle.resh_io.specs.Reading.{GivesFirst}
 use Rattle.resh_coord.specs.declared.cause.End.{End}
 use Rattle.resh_setup.specs.declared.setup.Setup.{Setup}
 use Rattle.resh_setup.specs.declared.turn.Turn.{Turn}
 use Rattle.resh_setup.specs.declared.fault.SetupFault.{SetupFault}
 use Rattle.resh_setup.specs.declared.fault.SetupFault.TheVariants as InSetup
+use Rattle.resh_model.specs.MarkLaws.{is_failure}
 use Rattle.resh_model.specs.Orders.{IsLawful}
-use Rattle.resh_model.specs.Runs.{page_of, IsMarked}
+use Rattle.resh_model.specs.Runs.{page_of}
 use Rattle.resh_config.specs.ClusterFile.{IsSetup, IsRefused}
 use Rattle.resh_report.specs.Refusals.{refusal_text}
-use Rattle.resh_run.specs.Top.{is_plain, input_limit, is_unbuilt}
+use Rattle.resh_run.specs.Seen.{Seen}
+use Rattle.resh_run.specs.Top.{IsWhole, is_plain, input_limit, is_unbuilt}
 use Rattle.resh_run.specs.declared.decision.Said.{Said}
 use Rattle.resh_run.specs.declared.decision.Said.TheVariants.{Usage, ReadFault, TooLong, NotBuilt, NoMemory, Refused, Ran}
 
--- the page of a setup's run
+-- the page of a setup's run, which nothing made fail
 pub record IsPage (setup : Setup) (order : List Turn) (end : End) (page : List ℕ) : Type 0 where
   pub built : is_unbuilt setup ≡ false
-  pub marked : IsMarked setup order end
   pub lawful : IsLawful setup order end
+  pub well : is_failure end ≡ false
   pub text : page ≡ page_of setup order end
 
 -- what a setup comes to
@@ -54,18 +56,17 @@ BytesSay bytes (Refused text) = (fault : SetupFault) × IsRefused bytes fault ×
 BytesSay bytes (Ran order end page) = (setup : Setup) × IsSetup bytes setup × IsPage setup order end page.items
 
 -- the bytes that were left come to this
-pub record ReadSays (old new : Option (List ℕ)) (said : Said) : Type 0 where
+pub record ReadSays (source : Seen) (said : Said) : Type 0 where
   pub bytes : List ℕ
-  pub within : length bytes ≤ input_limit
-  pub all : GivesAll old new bytes
+  pub whole : IsWhole source bytes
   pub says : BytesSay bytes said
 
 -- what the top call has to say, and from what cause
-abbrev pub IsSaid : List (String Global) → Option (List ℕ) → Option (List ℕ) → ℕ → ℕ → Said → Type 0
-IsSaid words old new faults_old faults_new Usage = is_plain words ≡ false
-IsSaid words old new faults_old faults_new ReadFault = (is_plain words ≡ true) × Rose faults_old faults_new
-IsSaid words old new faults_old faults_new TooLong = (is_plain words ≡ true) × GivesFirst old new (input_limit + 1)
-IsSaid words old new faults_old faults_new NotBuilt = (is_plain words ≡ true) × ReadSays old new NotBuilt
-IsSaid words old new faults_old faults_new NoMemory = is_plain words ≡ true
-IsSaid words old new faults_old faults_new (Refused text) = (is_plain words ≡ true) × ReadSays old new (Refused text)
-IsSaid words old new faults_old faults_new (Ran order end page) = (is_plain words ≡ true) × ReadSays old new (Ran order end page)
+abbrev pub IsSaid : List (String Global) → Seen → Said → Type 0
+IsSaid words source Usage = (is_plain words ≡ false) × (source.new ≡ source.old)
+IsSaid words source ReadFault = (is_plain words ≡ true) × Rose source.old.faults source.new.faults
+IsSaid words source TooLong = (is_plain words ≡ true) × GivesFirst source.old.bytes source.new.bytes (input_limit + 1)
+IsSaid words source NotBuilt = (is_plain words ≡ true) × ReadSays source NotBuilt
+IsSaid words source NoMemory = is_plain words ≡ true
+IsSaid words source (Refused text) = (is_plain words ≡ true) × ReadSays source (Refused text)
+IsSaid words source (Ran order end page) = (is_plain words ≡ true) × ReadSays source (Ran order end page)

@@ -1,5 +1,5 @@
 -- What the top call answers: what it means to say, and what of it was written.
-use Rattle.std.specs.Prelude.{◌≡◌, ◌≢◌, ℕ, ◌+◌, ◌<◌, ◌≤◌, Bool, true, false, ◌||◌, nat_eq, nat_lt, List, [], ◌∷◌, ◌++◌, length, map, take, codes, Option, Some, None, String, string_bytes}
+use Rattle.std.specs.Prelude.{◌≡◌, ℕ, ◌+◌, ◌<◌, ◌≤◌, Bool, true, false, ◌||◌, nat_eq, nat_lt, List, [], ◌∷◌, length, take, codes, Option, Some, None, String, string_bytes}
 use Rattle.std.specs.declared.alloc.Global.{Global}
 use Rattle.std.specs.Cmp.Lexicographic.{pointwise}
 use Rattle.std.specs.Io.KnownBytes.{Appends}
@@ -10,11 +10,15 @@ use Rattle.resh_coord.specs.declared.cause.End.TheVariants.{Committed, Aborted}
 use Rattle.resh_setup.specs.declared.setup.Setup.{Setup}
 use Rattle.resh_setup.specs.declared.turn.Turn.{Turn}
 use Rattle.resh_setup.specs.declared.fault.SetupFault.{SetupFault}
+use Rattle.resh_model.specs.Licence.{HasLicence, crash_steps}
+use Rattle.resh_model.specs.MarkLaws.{is_failure}
 use Rattle.resh_model.specs.Orders.{IsLawful}
-use Rattle.resh_model.specs.Runs.{page_of, IsMarked}
+use Rattle.resh_model.specs.Runs.{page_of}
 use Rattle.resh_config.specs.ClusterFile.{IsSetup, IsRefused}
 use Rattle.resh_report.specs.Lines.{line}
 use Rattle.resh_report.specs.Refusals.{refusal_text}
+use Rattle.resh_run.specs.Seen.{Seen}
+use Rattle.resh_run.specs.declared.plain.Outcome.{Outcome}
 
 -- the words of the command line are `plain` alone
 abbrev pub is_plain : List (String Global) → Bool
@@ -48,32 +52,70 @@ abbrev pub status_of : End → ℕ
 status_of Committed = 0
 status_of (Aborted cause) = 1
 
--- What is to be said: the status, the order, the end and the text, each with its cause. Bytes are those that the
--- source had left, where it tells them. Want of memory is free.
-pub data Means (words : List (String Global)) (old new : Option (List ℕ)) (faults_old faults_new : ℕ)
-    (meant : ℕ) (order : List Turn) (end : Option End) (text : List ℕ) : Type 0 where
-  usage : is_plain words ≡ false → meant ≡ 2 → order ≡ [] → end ≡ None → text ≡ usage_text
-      → Means words old new faults_old faults_new meant order end text
-  read_fault : is_plain words ≡ true → Rose faults_old faults_new → meant ≡ 4 → order ≡ [] → end ≡ None → text ≡ read_fault_text
-      → Means words old new faults_old faults_new meant order end text
-  too_long : is_plain words ≡ true → GivesFirst old new (input_limit + 1) → meant ≡ 3 → order ≡ [] → end ≡ None → text ≡ too_long_text
-      → Means words old new faults_old faults_new meant order end text
-  refused : (bytes : List ℕ) (fault : SetupFault) → is_plain words ≡ true → length bytes ≤ input_limit → GivesAll old new bytes
-      → IsRefused bytes fault → meant ≡ 3 → order ≡ [] → end ≡ None → text ≡ refusal_text fault
-      → Means words old new faults_old faults_new meant order end text
-  not_built : (bytes : List ℕ) (setup : Setup) → is_plain words ≡ true → length bytes ≤ input_limit → GivesAll old new bytes
-      → IsSetup bytes setup → is_unbuilt setup ≡ true → meant ≡ 3 → order ≡ [] → end ≡ None → text ≡ not_built_text
-      → Means words old new faults_old faults_new meant order end text
-  ran : (bytes : List ℕ) (setup : Setup) (ended : End) → is_plain words ≡ true
-      → length bytes ≤ input_limit → GivesAll old new bytes → IsSetup bytes setup → is_unbuilt setup ≡ false
-      → IsMarked setup order ended → IsLawful setup order ended
-      → meant ≡ status_of ended → end ≡ Some ended → text ≡ page_of setup order ended
-      → Means words old new faults_old faults_new meant order end text
-  no_memory : is_plain words ≡ true → meant ≡ 6 → order ≡ [] → end ≡ None → text ≡ no_memory_text
-      → Means words old new faults_old faults_new meant order end text
+-- what is said: the status that is meant, the turns and the end of a run, and the text
+pub record Saying : Type 0 where
+  pub meant : ℕ
+  pub order : List Turn
+  pub end : Option End
+  pub text : List ℕ
+
+-- a text beside which nothing ran
+abbrev pub alone : ℕ → List ℕ → Saying
+alone meant text = record { meant = meant; order = []; end = None; text = text }
+
+-- what an outcome says by a text
+abbrev pub said_in : Outcome → List ℕ → Saying
+said_in outcome text = record { meant = outcome.meant; order = outcome.order; end = outcome.end; text = text }
+
+-- A run of the setup: the order is lawful, the end is its end and names no failure without licence, and the text is the
+-- page of that order.
+pub record IsRunOf (setup : Setup) (said : Saying) : Type 0 where
+  pub ended : End
+  pub lawful : IsLawful setup said.order ended
+  pub licensed : HasLicence setup.plan (crash_steps setup) ended
+  pub end_is : said.end ≡ Some ended
+  pub meant_is : said.meant ≡ status_of ended
+  pub page_is : said.text ≡ page_of setup said.order ended
+
+-- the end, if there is one, is no failure
+abbrev pub HasNotFailed : Option End → Type 0
+HasNotFailed end = (ended : End) → end ≡ Some ended → is_failure ended ≡ false
+
+-- the whole input was read, and is no longer than the limit
+pub record IsWhole (source : Seen) (bytes : List ℕ) : Type 0 where
+  pub within : length bytes ≤ input_limit
+  pub all : GivesAll source.old.bytes source.new.bytes bytes
+
+-- What is said, and from what cause. Bytes are those that the source had left, where it tells them. Want of memory is
+-- free.
+pub data Means (words : List (String Global)) (source : Seen) (said : Saying) : Type 0 where
+  usage : is_plain words ≡ false → source.new ≡ source.old → said ≡ alone 2 usage_text → Means words source said
+  read_fault : is_plain words ≡ true → Rose source.old.faults source.new.faults → said ≡ alone 4 read_fault_text
+      → Means words source said
+  too_long : is_plain words ≡ true → GivesFirst source.old.bytes source.new.bytes (input_limit + 1)
+      → said ≡ alone 3 too_long_text → Means words source said
+  refused : (bytes : List ℕ) (fault : SetupFault) → is_plain words ≡ true → IsWhole source bytes
+      → IsRefused bytes fault → said ≡ alone 3 (refusal_text fault) → Means words source said
+  not_built : (bytes : List ℕ) (setup : Setup) → is_plain words ≡ true → IsWhole source bytes → IsSetup bytes setup
+      → is_unbuilt setup ≡ true → said ≡ alone 3 not_built_text → Means words source said
+  ran : (bytes : List ℕ) (setup : Setup) → is_plain words ≡ true → IsWhole source bytes → IsSetup bytes setup
+      → is_unbuilt setup ≡ false → IsRunOf setup said → HasNotFailed said.end → Means words source said
+  no_memory : is_plain words ≡ true → said ≡ alone 6 no_memory_text → Means words source said
 
 -- what was written of a text: all of it, with the status that is meant, or its first bytes, with status 5
-pub data IsSent (old new : Option (List ℕ)) (faults_old faults_new : ℕ) (text : List ℕ) (meant status sent : ℕ) : Type 0 where
-  whole : Appends old new text → status ≡ meant → sent ≡ length text → IsSent old new faults_old faults_new text meant status sent
-  cut : Rose faults_old faults_new → sent < length text → Appends old new (take sent text) → status ≡ 5
-      → IsSent old new faults_old faults_new text meant status sent
+pub data IsSent (sink : Seen) (text : List ℕ) (outcome : Outcome) : Type 0 where
+  whole : Appends sink.old.bytes sink.new.bytes text → outcome.status ≡ outcome.meant → outcome.sent ≡ length text
+      → IsSent sink text outcome
+  cut : Rose sink.old.faults sink.new.faults → outcome.sent < length text
+      → Appends sink.old.bytes sink.new.bytes (take outcome.sent text) → outcome.status ≡ 5 → IsSent sink text outcome
+
+-- an outcome: what is said has its cause, and is sent
+pub record IsOutcome (words : List (String Global)) (source sink : Seen) (outcome : Outcome) : Type 0 where
+  pub text : List ℕ
+  pub means : Means words source (said_in outcome text)
+  pub sent : IsSent sink text outcome
+
+-- a call of these words, source and sink ended with this status
+abbrev pub EndsWith : List (String Global) → Seen → Seen → ℕ → Type 0
+EndsWith words source sink status =
+    (outcome : Outcome) × IsOutcome words source sink outcome × (outcome.status ≡ status)

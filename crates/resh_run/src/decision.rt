@@ -3,6 +3,7 @@
 ghost use Rattle.resh_run.specs.Said.{IsSaid, BytesSay, FaultSays, SetupSays};
 ghost use Rattle.std.specs.Prelude.{◌≡◌};
 ghost use Rattle.resh_setup.specs.Validity.{IsValid};
+ghost use Rattle.resh_run.specs.Seen.{seen};
 ghost use Rattle.resh_run.specs.Top.{is_unbuilt};
 
 use crate::words::are_plain;
@@ -37,7 +38,7 @@ pub(crate) enum Said {
 
 /// Reads the cluster file and runs it.
 pub(crate) fn decide<S: Source>(alloc: Global, words: &[String], source: &mut S) -> Said
-    ensures { IsSaid words.now (S.left source.old) (S.left source.new) (S.faults source.old) (S.faults source.new) result }
+    ensures { IsSaid words.now (seen S.left S.faults source.old source.new) result }
 {
     if !are_plain(words) {
         return Said::Usage;

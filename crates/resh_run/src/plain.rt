@@ -1,14 +1,9 @@
-ghost use Rattle.std.specs.Prelude.{◌≡◌, ◌≢◌, ◌<◌, ◌≤◌, ◌↔◌, ◌⊎◌, ℕ, List, [], length, Some, None, true, false};
+ghost use Rattle.std.specs.Prelude.{◌≡◌, ◌↔◌, false};
 ghost use Rattle.resh_io.specs.Causes.{Rose};
-ghost use Rattle.resh_setup.specs.declared.setup.Setup.{Setup};
-ghost use Rattle.resh_setup.specs.declared.fault.SetupFault.{SetupFault};
-ghost use Rattle.resh_model.specs.Placement.{HasNoClash};
-ghost use Rattle.resh_model.specs.Marks.{bag_of};
-ghost use Rattle.resh_config.specs.ClusterFile.{IsSetup, IsRefused};
-ghost use Rattle.resh_report.specs.Refusals.{refusal_text};
-ghost use Rattle.resh_run.specs.Top.{Means, IsSent, is_plain, is_unbuilt, input_limit, too_long_text, not_built_text};
-ghost use Rattle.resh_run.specs.Promises.{IsRunOf, IsFed};
-ghost use Rattle.resh_run.specs.Answer.{meant_by, order_in, end_in, text_in};
+ghost use Rattle.resh_run.specs.Answer.{said};
+ghost use Rattle.resh_run.specs.Promises.{Commits, Completes, FailsToWrite, Headline, RefusesFaults, RefusesLong, RefusesUnbuilt, RunsNothing, RunsOneMark};
+ghost use Rattle.resh_run.specs.Seen.{seen};
+ghost use Rattle.resh_run.specs.Top.{HasNotFailed, IsOutcome, IsSent, is_plain, said_in};
 
 use crate::decision::{Said, decide};
 use crate::texts::{no_memory, not_built, read_fault, too_long, usage};
@@ -42,50 +37,38 @@ pub fn plain_main<S: Source, K: Sink>(
     source: &mut S,
     sink: &mut K,
 ) -> Outcome
-    ensures outcome { (text : List ℕ)
-        × Means words.now (S.left source.old) (S.left source.new) (S.faults source.old) (S.faults source.new)
-        result.meant result.order result.end text
-        × IsSent (K.written sink.old) (K.written sink.new) (K.faults sink.old) (K.faults sink.new)
-        text result.meant result.status result.sent }
-    ensures headline { (bytes : List ℕ) (setup : Setup) → S.left source.old ≡ Some bytes → IsSetup bytes setup → result.meant ≤ 1
-        → (text : List ℕ) × IsRunOf setup result.order result.end result.meant text
-        × IsSent (K.written sink.old) (K.written sink.new) (K.faults sink.old) (K.faults sink.new)
-        text result.meant result.status result.sent }
+    ensures outcome { IsOutcome words.now (seen S.left S.faults source.old source.new)
+        (seen K.written K.faults sink.old sink.new) result }
+    ensures headline { Headline words.now (seen S.left S.faults source.old source.new)
+        (seen K.written K.faults sink.old sink.new) result }
     ensures usage { (result.meant ≡ 2) ↔ (is_plain words.now ≡ false) }
-    ensures refused { (bytes : List ℕ) (fault : SetupFault) → IsFed words.now (S.left source.old) (S.faults source.old) (S.faults source.new) bytes
-        → IsRefused bytes fault → (result.meant ≡ 6) ⊎ ((result.meant ≡ 3)
-        × IsSent (K.written sink.old) (K.written sink.new) (K.faults sink.old) (K.faults sink.new)
-        (refusal_text fault) result.meant result.status result.sent) }
-    ensures not_built { (bytes : List ℕ) (setup : Setup) → IsFed words.now (S.left source.old) (S.faults source.old) (S.faults source.new) bytes
-        → IsSetup bytes setup → is_unbuilt setup ≡ true → (result.meant ≡ 6) ⊎ ((result.meant ≡ 3)
-        × IsSent (K.written sink.old) (K.written sink.new) (K.faults sink.old) (K.faults sink.new)
-        not_built_text result.meant result.status result.sent) }
-    ensures too_long { (bytes : List ℕ) → is_plain words.now ≡ true → S.left source.old ≡ Some bytes → input_limit < length bytes
-        → ¬ Rose (S.faults source.old) (S.faults source.new) → (result.meant ≡ 6) ⊎ ((result.meant ≡ 3)
-        × IsSent (K.written sink.old) (K.written sink.new) (K.faults sink.old) (K.faults sink.new)
-        too_long_text result.meant result.status result.sent) }
+    ensures left_bytes { is_plain words.now ≡ false → S.left source.new ≡ S.left source.old }
+    ensures left_count { is_plain words.now ≡ false → S.faults source.new ≡ S.faults source.old }
+    ensures refused { RefusesFaults words.now (seen S.left S.faults source.old source.new)
+        (seen K.written K.faults sink.old sink.new) result }
+    ensures not_built { RefusesUnbuilt words.now (seen S.left S.faults source.old source.new)
+        (seen K.written K.faults sink.old sink.new) result }
+    ensures too_long { RefusesLong words.now (seen S.left S.faults source.old source.new)
+        (seen K.written K.faults sink.old sink.new) result }
     ensures read_fault { result.meant ≡ 4 → Rose (S.faults source.old) (S.faults source.new) }
-    ensures write_fault { result.status ≢ result.meant → (result.status ≡ 5) × Rose (K.faults sink.old) (K.faults sink.new) }
-    ensures nothing_ran { 1 < result.meant → (result.order ≡ []) × (result.end ≡ None) }
-    ensures complete { (bytes : List ℕ) (setup : Setup) → IsFed words.now (S.left source.old) (S.faults source.old) (S.faults source.new) bytes
-        → IsSetup bytes setup → is_unbuilt setup ≡ false → (result.meant ≤ 1) ⊎ (result.meant ≡ 6) }
-    ensures commits { (bytes : List ℕ) (setup : Setup) → IsFed words.now (S.left source.old) (S.faults source.old) (S.faults source.new) bytes
-        → IsSetup bytes setup → is_unbuilt setup ≡ false → HasNoClash setup.new_map (bag_of setup)
-        → ¬ Rose (K.faults sink.old) (K.faults sink.new) → (result.status ≡ 0) ⊎ (result.status ≡ 6) }
+    ensures write_fault { FailsToWrite (seen K.written K.faults sink.old sink.new) result }
+    ensures nothing_ran { RunsNothing result }
+    ensures complete { Completes words.now (seen S.left S.faults source.old source.new) result }
+    ensures commits { Commits words.now (seen S.left S.faults source.old source.new)
+        (seen K.written K.faults sink.old sink.new) result }
+    ensures one_mark { RunsOneMark words.now (seen S.left S.faults source.old source.new) result }
+    ensures not_failed { HasNotFailed result.end }
 {
-    let said = decide(alloc, words, source);
-    send(alloc, said, sink)
+    let saying = decide(alloc, words, source);
+    send(alloc, saying, sink)
 }
 
 /// Hands the text of what is said to the sink.
-fn send<K: Sink>(alloc: Global, said: Said, sink: &mut K) -> Outcome
-    ensures meant { result.meant ≡ meant_by said }
-    ensures order { result.order ≡ order_in said }
-    ensures end { result.end ≡ end_in said }
-    ensures sent { IsSent (K.written sink.old) (K.written sink.new) (K.faults sink.old) (K.faults sink.new)
-        (text_in said) result.meant result.status result.sent }
+fn send<K: Sink>(alloc: Global, saying: Said, sink: &mut K) -> Outcome
+    ensures said { said_in result (said saying).text ≡ said saying }
+    ensures sent { IsSent (seen K.written K.faults sink.old sink.new) (said saying).text result }
 {
-    match said {
+    match saying {
         Said::Usage => hand_over(2, Sequence::new(alloc), None, usage(), sink),
         Said::ReadFault => hand_over(4, Sequence::new(alloc), None, read_fault(), sink),
         Said::TooLong => hand_over(3, Sequence::new(alloc), None, too_long(), sink),
@@ -112,8 +95,7 @@ fn hand_over<K: Sink>(
     ensures meant { result.meant ≡ meant }
     ensures order { result.order ≡ order }
     ensures end { result.end ≡ end }
-    ensures sent { IsSent (K.written sink.old) (K.written sink.new) (K.faults sink.old) (K.faults sink.new)
-        text.now meant result.status result.sent }
+    ensures sent { IsSent (seen K.written K.faults sink.old sink.new) text.now result }
 {
     match write_all(sink, text) {
         Ok(()) => Outcome {

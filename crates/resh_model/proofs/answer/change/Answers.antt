@@ -3,7 +3,7 @@ use Rattle.std.proofs.lemmas.Result.{IfOk-weaker}
 use Rattle.resh_chunks.specs.Chunks.{owner_of}
 use Rattle.resh_ops.specs.Updates.{updated}
 use Rattle.resh_model.specs.Answer.{result_doing, text_limit}
-use Rattle.resh_model.proofs.Hitting.{hit_doing}
+use Rattle.resh_model.proofs.answers.Hitting.{hit_doing}
 use Rattle.resh_model.proofs.answer.change.Goals as goal
 
 pub returns-in-Some : goal.returns-in-Some

@@ -5,7 +5,7 @@ use Rattle.resh_shard.specs.declared.reply.Reply.TheVariants.{Found, Counted}
 use Rattle.resh_model.specs.Bag.{documents}
 use Rattle.resh_model.specs.Answer.{doing, says}
 use Rattle.resh_model.specs.declared.collection.Entry.{Entry}
-use Rattle.resh_model.proofs.Showing.{counted}
+use Rattle.resh_model.proofs.answers.Showing.{counted}
 use Rattle.resh_model.proofs.answer.doing_of.Goals as goal
 
 pub returns-in-Update : goal.returns-in-Update

@@ -1,7 +1,7 @@
 use Rattle.std.proofs.Common.{arith}
 use Rattle.resh_filter.specs.Filters.{matches}
 use Rattle.resh_model.specs.declared.collection.Entry.{Entry}
-use Rattle.resh_model.proofs.Showing.{shown_more}
+use Rattle.resh_model.proofs.answers.Showing.{shown_more}
 use Rattle.resh_model.proofs.answer.first.Goals as goal
 
 pub loop-entry-preserved : goal.loop-entry-preserved

@@ -1,5 +1,5 @@
 use Rattle.std.proofs.Common.{sym, ◌∙◌}
-use Rattle.resh_model.proofs.Hitting.{not_hit}
+use Rattle.resh_model.proofs.answers.Hitting.{not_hit}
 use Rattle.resh_model.proofs.answer.hit.Goals as goal
 
 pub returns-else-matches : goal.returns-else-matches

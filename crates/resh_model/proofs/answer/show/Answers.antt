@@ -1,6 +1,6 @@
 use Rattle.std.proofs.Common.{◌∙◌, arith}
 use Rattle.resh_filter.specs.Filters.{matches}
-use Rattle.resh_model.proofs.Showing.{shown_full}
+use Rattle.resh_model.proofs.answers.Showing.{shown_full}
 use Rattle.resh_model.proofs.answer.show.Goals as goal
 
 pub returns-then-len-ge-MOST_SHOWN : goal.returns-then-len-ge-MOST_SHOWN

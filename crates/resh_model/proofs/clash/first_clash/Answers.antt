@@ -1,4 +1,4 @@
-use Rattle.resh_model.proofs.Clashing.{none_ties, tie_clashes}
+use Rattle.resh_model.proofs.placing.Clashing.{none_ties, tie_clashes}
 use Rattle.resh_model.proofs.clash.first_clash.Goals as goal
 
 pub returns-in-None : goal.returns-in-None

@@ -1,7 +1,7 @@
 use Rattle.std.proofs.Common.{arith, sym, ◌∙◌, ◌<◌, ◌≤◌, ◌≡◌, length, map, subst}
 use Rattle.std.proofs.lemmas.List.{length-map}
 use Rattle.resh_model.specs.Entries.{keyed}
-use Rattle.resh_model.proofs.Gathered.{stands_here, goes_below, goes_above, goes_between}
+use Rattle.resh_model.proofs.bags.Gathered.{stands_here, goes_below, goes_above, goes_between}
 use Rattle.resh_model.proofs.collection.place_of.Goals as goal
 
 pub returns-in-Equal : goal.returns-in-Equal

@@ -1,4 +1,4 @@
-use Rattle.resh_model.proofs.BagLaws.{puts_one, removes_one, same_by_place}
+use Rattle.resh_model.proofs.bags.BagLaws.{puts_one, removes_one, same_by_place}
 use Rattle.resh_model.proofs.laws.bag_laws.Goals as goal
 
 pub returns-clause-puts : goal.returns-clause-puts

@@ -1,4 +1,4 @@
-use Rattle.resh_model.proofs.Finding.{doings_find}
+use Rattle.resh_model.proofs.answers.Finding.{doings_find}
 use Rattle.resh_model.proofs.laws.doings_find.Goals as goal
 
 pub returns : goal.returns

@@ -1,4 +1,4 @@
-use Rattle.resh_model.proofs.Switching.{switch_keeps}
+use Rattle.resh_model.proofs.orders.Switching.{switch_keeps}
 use Rattle.resh_model.proofs.laws.marks_keep_the_documents.Goals as goal
 
 pub returns-clause-switch : goal.returns-clause-switch

@@ -1,4 +1,4 @@
-use Rattle.resh_model.proofs.Opening.{opens_placed, opens_whole}
+use Rattle.resh_model.proofs.bags.Opening.{opens_placed, opens_whole}
 use Rattle.resh_model.proofs.laws.opening_laws.Goals as goal
 
 pub returns-clause-placed : goal.returns-clause-placed

@@ -1,5 +1,5 @@
-use Rattle.resh_model.proofs.Aborts.{drops_at_once, drops_only_there}
-use Rattle.resh_model.proofs.Marking.{has_one_mark}
+use Rattle.resh_model.proofs.orders.Aborts.{drops_at_once, drops_only_there}
+use Rattle.resh_model.proofs.orders.Marking.{has_one_mark}
 use Rattle.resh_model.proofs.laws.orders_have_one_mark.Goals as goal
 
 pub returns-clause-mark : goal.returns-clause-mark

@@ -1,4 +1,4 @@
-use Rattle.resh_model.proofs.Served.{asks_each_once, answers_each_once, answers_one, has_turn_for_each}
+use Rattle.resh_model.proofs.orders.Served.{asks_each_once, answers_each_once, answers_one, has_turn_for_each}
 use Rattle.resh_model.proofs.laws.orders_serve_each_once.Goals as goal
 
 pub returns-clause-asked : goal.returns-clause-asked

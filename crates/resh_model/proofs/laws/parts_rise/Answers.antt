@@ -1,4 +1,4 @@
-use Rattle.resh_model.proofs.Parting.{no_clash_in_place, parts_rise}
+use Rattle.resh_model.proofs.shards.Parting.{no_clash_in_place, parts_rise}
 use Rattle.resh_model.proofs.laws.parts_rise.Goals as goal
 
 pub returns-clause-own_map : goal.returns-clause-own_map

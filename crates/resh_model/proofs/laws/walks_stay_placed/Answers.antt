@@ -1,4 +1,4 @@
-use Rattle.resh_model.proofs.Placed.{stays_placed, holdings_rise, holdings_keep_all}
+use Rattle.resh_model.proofs.orders.Placed.{stays_placed, holdings_rise, holdings_keep_all}
 use Rattle.resh_model.proofs.laws.walks_stay_placed.Goals as goal
 
 pub returns-clause-placed : goal.returns-clause-placed

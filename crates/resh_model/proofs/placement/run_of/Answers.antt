@@ -1,4 +1,4 @@
-use Rattle.resh_model.proofs.PlacementRun.{back_known, switches, drops}
+use Rattle.resh_model.proofs.placing.SeatedRuns.{back_known, switches, drops}
 use Rattle.resh_model.proofs.placement.run_of.Goals as goal
 
 pub hand_out-requires-in-Some : goal.hand_out-requires-in-Some

@@ -1,6 +1,6 @@
 use Rattle.std.proofs.Common.{refl, arith}
 use Rattle.resh_model.specs.States.{told}
-use Rattle.resh_model.proofs.Finishing.{none_left}
+use Rattle.resh_model.proofs.orders.Finishing.{none_left}
 use Rattle.resh_model.proofs.plain.all_served.Goals as goal
 
 pub returns : goal.returns

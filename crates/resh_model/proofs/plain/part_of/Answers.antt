@@ -2,7 +2,7 @@ use Rattle.std.proofs.Common.{◌≡◌, ◌∙◌, ◌++◌, ◌∷◌, [], eqb
 use Rattle.std.proofs.lemmas.Bool.{eq-eqb}
 use Rattle.resh_chunks.specs.Chunks.{owner_of}
 use Rattle.resh_model.specs.declared.collection.Entry.{Entry}
-use Rattle.resh_model.proofs.Holding.{passed_more, failed_more, unequal}
+use Rattle.resh_model.proofs.shards.Holding.{passed_more, failed_more, unequal}
 use Rattle.resh_model.proofs.plain.part_of.Goals as goal
 
 pub loop-entry-preserved-then-owner_of-shard : goal.loop-entry-preserved-then-owner_of-shard

@@ -1,6 +1,6 @@
 use Rattle.std.proofs.Common.{◌∙◌, arith}
 use Rattle.resh_model.specs.States.{told}
-use Rattle.resh_model.proofs.Walking.{from_opening, one_turn, refused_turn, at_end}
+use Rattle.resh_model.proofs.orders.Walking.{from_opening, one_turn, refused_turn, at_end}
 use Rattle.resh_model.proofs.plain.walk.Goals as goal
 
 pub loop-turn-init : goal.loop-turn-init

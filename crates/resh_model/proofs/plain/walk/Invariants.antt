@@ -1,6 +1,6 @@
 use Rattle.std.proofs.Common.{drop}
 use Rattle.resh_model.specs.States.{told}
-use Rattle.resh_model.proofs.Walking.{Onward}
+use Rattle.resh_model.proofs.orders.Walking.{Onward}
 use Rattle.resh_model.proofs.plain.walk.Given as goal
 
 abbrev pub invariant-loop-turn : goal.invariant-loop-turn

@@ -1,5 +1,5 @@
 use Rattle.std.proofs.Common.{◌≡◌, ◌∙◌, ◌<◌, ◌++◌, ◌∷◌, [], ap, length, arith, rules}
-use Rattle.resh_model.proofs.PlacementHandOut.{handed_length, handed_more, next_known}
+use Rattle.resh_model.proofs.placing.HandedOut.{handed_length, handed_more, next_known}
 use Rattle.resh_model.proofs.seat.hand_out.Goals as goal
 
 pub index_mut-part-requires : goal.index_mut-part-requires

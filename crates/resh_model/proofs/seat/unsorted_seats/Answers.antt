@@ -1,4 +1,4 @@
-use Rattle.resh_model.proofs.PlacementHandOut.{seated_more}
+use Rattle.resh_model.proofs.placing.HandedOut.{seated_more}
 use Rattle.resh_model.proofs.seat.unsorted_seats.Goals as goal
 
 pub loop-document-preserved : goal.loop-document-preserved

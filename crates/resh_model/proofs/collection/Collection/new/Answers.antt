@@ -1,6 +1,6 @@
 use Rattle.std.proofs.Common.{ap, ◌∙◌}
 use Rattle.resh_model.specs.Entries.{gathered}
-use Rattle.resh_model.proofs.Gathered.{gathered_none}
+use Rattle.resh_model.proofs.bags.Gathered.{gathered_none}
 use Rattle.resh_model.proofs.collection.Collection.new.Goals as goal
 
 pub returns : goal.returns

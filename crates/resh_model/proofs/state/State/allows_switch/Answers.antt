@@ -1,4 +1,4 @@
-use Rattle.resh_model.proofs.Deciding.{switch_decided}
+use Rattle.resh_model.proofs.orders.Deciding.{switch_decided}
 use Rattle.resh_model.proofs.state.State.allows_switch.Goals as goal
 
 pub returns : goal.returns

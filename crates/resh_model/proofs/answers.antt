@@ -1,0 +1,4 @@
+pub mod Doings
+pub mod Finding
+pub mod Hitting
+pub mod Showing

@@ -1,0 +1,12 @@
+pub mod Aborts
+pub mod Deciding
+pub mod Finishing
+pub mod Lawful
+pub mod MarkCauses
+pub mod Marking
+pub mod OneMark
+pub mod Placed
+pub mod Served
+pub mod Switching
+pub mod Turns
+pub mod Walking

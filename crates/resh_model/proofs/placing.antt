@@ -1,0 +1,6 @@
+pub mod Clashing
+pub mod HandedOut
+pub mod SeatClashes
+pub mod SeatedRuns
+pub mod Seating
+pub mod SortedSeats
