@@ -15,6 +15,7 @@ use Rattle.resh_value.specs.OrderLaws.{compare_itself, compare_same}
 use Rattle.resh_value.specs.declared.value.Value.{Value}
 use Rattle.resh_value.specs.declared.value.Value.TheVariants.{Null}
 use Rattle.resh_value.proofs.FieldLaws.{field_of-below}
+use Rattle.resh_value.proofs.FieldSteps.{field_of-here, field_of-past}
 use Rattle.resh_value.proofs.Names.{by_order, name_cmp-itself, same_from_equal}
 use Rattle.resh_filter.specs.Filters.{agrees, matches, HasValues}
 use Rattle.resh_filter.specs.Laws.{MatchesByName, MatchesOwnFields, MatchesItself, NullIsMissing, EmptyMatchesAll}
@@ -28,13 +29,6 @@ same_agrees document name value is = ap (λ v. is_eq (compare_of value v)) is �
 
 agreeing_same : (document : Fields) (name : List ℕ) (value : Value) → agrees document (name, value) ≡ true → value_under document name ≡ value
 agreeing_same document name value e = sym (compare_same value (value_under document name) ((Equal-is (compare_of value (value_under document name))).0 e))
-
--- a name's field among fields that begin with one
-field_of-here : (name : List ℕ) (f : List ℕ × Value) (fs : Fields) → name_cmp name f.0 ≡ Equal → field_of (f ∷ fs) name ≡ Some f.1
-field_of-here name f fs h = ap (λ o. cond (is_eq o) (Some f.1) (field_of fs name)) h
-
-field_of-past : (name : List ℕ) (f : List ℕ × Value) (fs : Fields) → is_eq (name_cmp name f.0) ≡ false → field_of (f ∷ fs) name ≡ field_of fs name
-field_of-past name f fs h = ap (λ b. cond b (Some f.1) (field_of fs name)) h
 
 same_value : (x y : Value) → Some x ≡ Some y → x ≡ y
 same_value x y e = cc

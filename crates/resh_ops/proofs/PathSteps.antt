@@ -5,19 +5,9 @@ use Rattle.std.specs.declared.cmp.Ordering.TheVariants.{Less, Equal, Greater}
 use Rattle.std.specs.Ordering.{match_ordering}
 use Rattle.resh_value.specs.Names.{name_cmp}
 use Rattle.resh_value.specs.Lookup.{field_of, with_field}
+use Rattle.resh_value.proofs.FieldSteps.{with_field-before, with_field-here, with_field-past}
 use Rattle.resh_value.proofs.Names.{name_cmp-itself, by_order}
 use Rattle.resh_ops.specs.Paths.{Document, Path, reach, missing, within, embedded, dotted}
-
--- a put at fields that begin with f
-module _ {X : Type 0} (name : List ℕ) (f : List ℕ × X) (fs : List (List ℕ × X)) (v : X) where
-  with_field-before : name_cmp name f.0 ≡ Less → with_field (f ∷ fs) name v ≡ (name, v) ∷ f ∷ fs
-  with_field-before h = ap (λ o. match_ordering o ((name, v) ∷ f ∷ fs) ((f.0, v) ∷ fs) (f ∷ with_field fs name v)) h
-
-  with_field-here : name_cmp name f.0 ≡ Equal → with_field (f ∷ fs) name v ≡ (f.0, v) ∷ fs
-  with_field-here h = ap (λ o. match_ordering o ((name, v) ∷ f ∷ fs) ((f.0, v) ∷ fs) (f ∷ with_field fs name v)) h
-
-  with_field-past : name_cmp name f.0 ≡ Greater → with_field (f ∷ fs) name v ≡ f ∷ with_field fs name v
-  with_field-past h = ap (λ o. match_ordering o ((name, v) ∷ f ∷ fs) ((f.0, v) ∷ fs) (f ∷ with_field fs name v)) h
 
 -- the second of two puts under a name stands
 pub with_field-twice : {X : Type 0} (fs : List (List ℕ × X)) (name : List ℕ) (v w : X) → with_field (with_field fs name v) name w ≡ with_field fs name w
