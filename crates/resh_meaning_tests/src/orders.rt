@@ -6,8 +6,8 @@
 use resh_chunks::{Bound, ChunkMap, ChunkRow, KeyPattern};
 use resh_coord::{Cause, End, Node, Why};
 use resh_filter::Filter;
-use resh_ops::Update;
 use resh_model::{Replay, replay};
+use resh_ops::Update;
 use resh_setup::{Client, Clients, Setup, Turn, Turns};
 use resh_shard::{Command, Reply};
 use resh_value::{Document, Documents, Sequence, ShardId, Value, Words};
