@@ -10,7 +10,8 @@ use Rattle.resh_recip.specs.declared.phase.RecipientPhase.TheVariants.{AwaitingF
 abbrev going : RecipientPhase → State
 going = machine.going told_until
 
-pub on_going : (phase : RecipientPhase) (kind : Kind) → may (going phase) kind ≡ true → IsReached (after (going phase) kind)
+pub on_going : (phase : RecipientPhase) (kind : Kind) → may (going phase) kind ≡ true
+    → IsReached (after (going phase) kind)
 on_going AwaitingFetchTime ToDonate m = inl refl
 on_going AwaitingFetchTime ToRelease m = inr (record {
   phase = AwaitingFetchTime;
