@@ -93,29 +93,36 @@ fn entries_of_three_donors(rt: HostRuntime) -> Result<(), Fail> {
     Ok(())
 }
 
+fn fits_insert(alloc: Global, pool: &Pool, donor: u32, id: i64, x: i64) -> Result<bool, Fail> {
+    let what = What::Insert(document(alloc, id, "x", x)?);
+    Ok(pool.fits(ShardId(donor), &Value::Int(1), &what))
+}
+
+fn fits_update(alloc: Global, pool: &Pool, name: &str) -> Result<bool, Fail> {
+    let what = What::Update {
+        id: Value::Int(1),
+        change: change(alloc, name, 3)?,
+    };
+    Ok(pool.fits(ShardId(1), &Value::Int(1), &what))
+}
+
 #[test]
 fn what_does_not_fit(rt: HostRuntime) -> Result<(), Fail> {
     let alloc = rt.alloc();
     let pool = Pool::new(alloc, three_shards(alloc)?, 2)?;
-    let one = Value::Int(1);
-    let cases = [
-        (0, What::Insert(document(alloc, 1, "x", 1)?), true),
-        (0, What::Insert(document(alloc, 2, "x", 1)?), false),
-        (0, What::Insert(document(alloc, 1, "x", 11)?), false),
-        (2, What::Insert(document(alloc, 1, "x", 21)?), false),
-        (1, What::Delete { id: Value::Int(2) }, false),
-        (1, What::Final, false),
+    let inserts = [
+        (0, 1, 1, true),
+        (0, 2, 1, false),
+        (0, 1, 11, false),
+        (2, 1, 21, false),
     ];
-    for (donor, what, fits) in &cases {
-        assert_eq!(rt; pool.fits(ShardId(*donor), &one, what), *fits);
+    for (donor, id, x, fits) in inserts {
+        assert_eq!(rt; fits_insert(alloc, &pool, donor, id, x)?, fits);
     }
     for (name, fits) in [("n", true), ("x", false), ("_id", false)] {
-        let what = What::Update {
-            id: Value::Int(1),
-            change: change(alloc, name, 3)?,
-        };
-        assert_eq!(rt; pool.fits(ShardId(1), &one, &what), fits);
+        assert_eq!(rt; fits_update(alloc, &pool, name)?, fits);
     }
+    assert_eq!(rt; pool.fits(ShardId(1), &Value::Int(1), &What::Final), false);
     Ok(())
 }
 
