@@ -74,7 +74,7 @@ fn part_answer(alloc: Global, name: &str, content: &Json) -> Result<String, Fail
     let answer = answer(alloc, file.as_bytes())?;
     match answer.strip_prefix(WITH_CLIENTS_BEFORE) {
         Some(part) => Ok(String::from_str(alloc, part)?),
-        None => Ok(answer),
+        None => Ok(String::from_str(alloc, answer.as_str())?),
     }
 }
 

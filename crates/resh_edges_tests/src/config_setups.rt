@@ -64,10 +64,12 @@ pub(crate) fn setup_text(alloc: Global, setup: &Setup) -> Result<String, NoMemor
     Ok(text)
 }
 
-fn push_numbers(alloc: Global, text: &mut String, numbers: &[u32]) -> Result<(), NoMemory> {
+fn push_numbers(alloc: Global, text: &mut String, numbers: &[Option<u32>]) -> Result<(), NoMemory> {
     for number in numbers {
-        let number = format!(in alloc; " {number}")?;
-        text.push_str(number.as_str())?;
+        if let Some(number) = number {
+            let number = format!(in alloc; " {number}")?;
+            text.push_str(number.as_str())?;
+        }
     }
     Ok(())
 }
@@ -82,43 +84,79 @@ fn message_name(message: MessageKind) -> &'static str {
     }
 }
 
+/// The numbers of a link, and those after them.
+fn link_numbers(
+    recipient: &ShardId,
+    donor: &ShardId,
+    lane: Option<u32>,
+    position: Option<u32>,
+) -> [Option<u32>; 4] {
+    [Some(recipient.0), Some(donor.0), lane, position]
+}
+
 /// A step's first word, the numbers after it, and what stands behind these.
-fn step_parts(event: &Event) -> (&'static str, [u32; 4], usize, &'static str) {
+fn step_parts(event: &Event) -> (&'static str, [Option<u32>; 4], &'static str) {
     match event {
-        Event::Client { client } => ("client", [*client, 0, 0, 0], 1, ""),
-        Event::Begin => ("begin", [0; 4], 0, ""),
-        Event::Tell { shard } => ("tell", [shard.0, 0, 0, 0], 1, ""),
+        Event::Client { client } => ("client", [Some(*client), None, None, None], ""),
+        Event::Begin => ("begin", [None; 4], ""),
+        Event::Tell { shard } => ("tell", [Some(shard.0), None, None, None], ""),
         Event::Retell { shard, message } => {
-            ("retell", [shard.0, 0, 0, 0], 1, message_name(*message))
+            (
+                "retell",
+                [Some(shard.0), None, None, None],
+                message_name(*message),
+            )
         }
-        Event::Advance => ("advance", [0; 4], 0, ""),
-        Event::Clone { recipient, donor } => ("clone", [recipient.0, donor.0, 0, 0], 2, ""),
-        Event::Fetch { recipient, donor } => ("fetch", [recipient.0, donor.0, 0, 0], 2, ""),
-        Event::Cut { recipient, donor } => ("cut", [recipient.0, donor.0, 0, 0], 2, ""),
+        Event::Advance => ("advance", [None; 4], ""),
+        Event::Clone { recipient, donor } => (
+            "clone",
+            link_numbers(recipient, donor, None, None),
+            "",
+        ),
+        Event::Fetch { recipient, donor } => (
+            "fetch",
+            link_numbers(recipient, donor, None, None),
+            "",
+        ),
+        Event::Cut { recipient, donor } => ("cut", link_numbers(recipient, donor, None, None), ""),
         Event::Apply {
             recipient,
             donor,
             lane,
-        } => ("apply", [recipient.0, donor.0, *lane, 0], 3, ""),
+        } => (
+            "apply",
+            link_numbers(recipient, donor, Some(*lane), None),
+            "",
+        ),
         Event::Again {
             recipient,
             donor,
             lane,
             position,
-        } => ("again", [recipient.0, donor.0, *lane, *position], 4, ""),
-        Event::Record { recipient, donor } => ("record", [recipient.0, donor.0, 0, 0], 2, ""),
-        Event::Crash { recipient, donor } => ("crash", [recipient.0, donor.0, 0, 0], 2, ""),
-        Event::Report { recipient } => ("report", [recipient.0, 0, 0, 0], 1, ""),
-        Event::Fail { .. } => ("fail", [0; 4], 0, ""),
+        } => (
+            "again",
+            link_numbers(recipient, donor, Some(*lane), Some(*position)),
+            "",
+        ),
+        Event::Record { recipient, donor } => {
+            ("record", link_numbers(recipient, donor, None, None), "")
+        }
+        Event::Crash { recipient, donor } => (
+            "crash",
+            link_numbers(recipient, donor, None, None),
+            "",
+        ),
+        Event::Report { recipient } => ("report", [Some(recipient.0), None, None, None], ""),
+        Event::Fail { .. } => ("fail", [None; 4], ""),
     }
 }
 
 fn push_steps(alloc: Global, text: &mut String, setup: &Setup) -> Result<(), NoMemory> {
     for event in setup.steps.as_slice() {
-        let (word, numbers, count, last) = step_parts(event);
+        let (word, numbers, last) = step_parts(event);
         text.push_str("; ")?;
         text.push_str(word)?;
-        push_numbers(alloc, text, &numbers[..count])?;
+        push_numbers(alloc, text, &numbers)?;
         text.push_str(last)?;
     }
     Ok(())
@@ -128,12 +166,18 @@ fn push_who(alloc: Global, text: &mut String, who: &Who) -> Result<(), NoMemory>
     text.push_str(";")?;
     match who {
         Who::Coordinator => Ok(text.push_str(" coordinator")?),
-        Who::Link { recipient, donor } => push_numbers(alloc, text, &[recipient.0, donor.0]),
+        Who::Link { recipient, donor } => {
+            push_numbers(alloc, text, &[Some(recipient.0), Some(donor.0)])
+        }
         Who::Lane {
             recipient,
             donor,
             lane,
-        } => push_numbers(alloc, text, &[recipient.0, donor.0, *lane]),
+        } => push_numbers(
+            alloc,
+            text,
+            &[Some(recipient.0), Some(donor.0), Some(*lane)],
+        ),
     }
 }
 
@@ -144,7 +188,11 @@ fn push_plan(alloc: Global, text: &mut String, setup: &Setup) -> Result<(), NoMe
             Kind::Commit => " commit",
             Kind::Deliver => " deliver",
         })?;
-        push_numbers(alloc, text, &[planned.row.first, planned.row.last])?;
+        push_numbers(
+            alloc,
+            text,
+            &[Some(planned.row.first), Some(planned.row.last)],
+        )?;
         text.push_str(match planned.row.fate {
             PlanFate::CrashedBefore => " crashedBefore",
             PlanFate::CrashedAfter => " crashedAfter",
