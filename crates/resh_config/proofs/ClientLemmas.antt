@@ -5,7 +5,7 @@ use Rattle.std.specs.List.{AllByRecursion}
 use Rattle.std.proofs.lemmas.Bool.{ltb-false}
 use Rattle.serde_json.specs.Data.{Data, null, boolean, number, string, array, object, Items, no_items, item, Members}
 use Rattle.serde_json.specs.Find.{get_member}
-use Rattle.resh_ops.specs.Reading.{walked_update, fault_of, update_of}
+use Rattle.resh_ops.specs.Reading.{walked_update}
 use Rattle.resh_ops.specs.Updates.{IsUpdate}
 use Rattle.resh_ops.specs.declared.operator.Action.{Action}
 use Rattle.resh_ops.proofs.ReadPaths.{update_has_paths}
@@ -15,11 +15,13 @@ use Rattle.resh_setup.specs.Documents.{Document, IsFilter, IsCommand, inserts, u
 use Rattle.resh_setup.specs.Names.{each_after}
 use Rattle.resh_setup.specs.Validity.{AreClients, command_count, is_new_name, is_named_apart}
 use Rattle.resh_setup.specs.declared.client.Client.{Client}
-use Rattle.resh_setup.specs.declared.fault.SetupFault.TheVariants.{OverLimit, Update as InUpdate}
+use Rattle.resh_value.specs.declared.walk_fault.WalkFault.TheVariants.{At}
+use Rattle.resh_config.specs.declared.faults.FaultKind.TheVariants.{OverLimit}
 use Rattle.resh_config.specs.declared.form.Form.{Form}
 use Rattle.resh_config.specs.declared.form.Form.TheVariants.{Insert as ToInsert, Update as ToUpdate, Delete as ToDelete, Find as ToFind, Count as ToCount, Abort as ToAbort}
 use Rattle.resh_value.specs.Outcome.{and_then}
-use Rattle.resh_config.specs.Walk.{Read, field, field_or, row_with, text_in, count, items_from, accept}
+use Rattle.resh_config.specs.Faults.{Read, in_update}
+use Rattle.resh_config.specs.Walk.{field, field_or, row_with, text_in, count, items_from, accept}
 use Rattle.resh_config.specs.Documents.{document_in}
 use Rattle.resh_config.specs.Clients.{filter_in, update_in, says_true, form_of, command_of, command_in, commands_in, client_name_in, client_of, client_in, clients_in}
 use Rattle.resh_config.proofs.Outcomes.{Ok-and_then, Ok-in_err, Ok-required, Ok-field, Ok-row_with, Ok-cond, Ok-accept, optional_keeps, same_in_Ok}
@@ -36,7 +38,7 @@ filter_command f name ds c made tidy is =
     subst IsCommand (same_in_Ok (f s.0) c s.2) (made s.0 (filter_kept t.0 s.0 t.1 t.2))
 
 update_kept : (d : Data) (update : List Action) → update_in d ≡ Ok update → IsUpdate update
-update_kept d update is = update_has_paths d update (Ok-in_err fault_of (walked_update d) update (Ok-in_err (InUpdate []) (update_of d) update is))
+update_kept d update is = update_has_paths d update (Ok-in_err in_update (walked_update d) update is)
 
 form_kept : (ds : Members) (form : Option Form) (c : Command) → HasTidy ds → command_of ds form ≡ Ok c → IsCommand c
 form_kept ds (Some ToInsert) c tidy is =
@@ -66,7 +68,7 @@ command_kept before (array items) c tidy is = cc
 
 commands_few : (before : List Client) (d : Data) (commands : List Command) → commands_in before d ≡ Ok commands → command_count before + length commands ≤ 20000
 commands_few before (array ds) commands is =
-    let s = Ok-cond (ltb 20000 (command_count before + count ds)) (OverLimit [] 20000) (items_from command_in [] ds) commands is in
+    let s = Ok-cond (ltb 20000 (command_count before + count ds)) (At [] (OverLimit 20000)) (items_from command_in [] ds) commands is in
     let e = length-items_from command_in [] ds commands s.1 in
     omega (arith, ltb-false 20000 (command_count before + count ds) s.0)
 commands_few before null commands is = cc
@@ -77,7 +79,7 @@ commands_few before (object ds) commands is = cc
 
 commands_kept : (before : List Client) (d : Data) (commands : List Command) → IsTidy d → commands_in before d ≡ Ok commands → AllByRecursion IsCommand commands
 commands_kept before (array ds) commands tidy is =
-    let s = Ok-cond (ltb 20000 (command_count before + count ds)) (OverLimit [] 20000) (items_from command_in [] ds) commands is in
+    let s = Ok-cond (ltb 20000 (command_count before + count ds)) (At [] (OverLimit 20000)) (items_from command_in [] ds) commands is in
     items_keep command_in IsCommand command_kept [] ds commands tidy tt s.1
 commands_kept before null commands tidy is = cc
 commands_kept before (boolean b) commands tidy is = cc

@@ -12,7 +12,7 @@ use Rattle.resh_value.specs.Names.{name_cmp, same_name, HasRisingNames}
 use Rattle.resh_value.specs.Outcome.{and_then, in_err}
 use Rattle.resh_value.specs.Paths.{to_name, to_place}
 use Rattle.resh_value.specs.Tags.{oid_of, oid_in, whole_in, instant_of, date_in, tagged, tag_of}
-use Rattle.resh_value.specs.FromJson.{Read, whole, is_too_deep, has_dollar_name, object_value, value_at, items_at, members_at, walked_document, fault_of, document_of}
+use Rattle.resh_value.specs.FromJson.{Read, whole, is_too_deep, has_dollar_name, object_value, value_at, items_at, members_at, walked_document}
 use Rattle.resh_value.specs.Walk.{ends, under, at_step, as_kind}
 use Rattle.resh_value.specs.declared.value.Value.{Value, the_lemmas}
 use Rattle.resh_value.specs.declared.value.Value.TheVariants.{Null, Int, Text, Doc, List as Array, Oid, Bool as Boolean, Date}
@@ -21,7 +21,7 @@ use Rattle.resh_value.specs.declared.fault.ValueFaultKind.TheVariants.{NotWhole,
 use Rattle.resh_value.specs.declared.walk_fault.WalkFault.{WalkFault}
 use Rattle.resh_value.proofs.DepthLemmas.{levels-Doc}
 use Rattle.resh_filter.specs.declared.fault.FilterFaultKind.TheVariants.{Value as InValue}
-use Rattle.resh_filter.specs.Filters.{is_dotted, first_dotted, dotted_in, undotted, walked_filter, fault_of as filter_fault, filter_of}
+use Rattle.resh_filter.specs.Filters.{is_dotted, first_dotted, dotted_in, undotted, walked_filter}
 use Rattle.resh_config.proofs.Outcomes.{Ok-and_then, Ok-in_err, same_in_Ok}
 use Rattle.resh_config.proofs.SortedMembers.{names_of, IsTidy}
 
@@ -56,12 +56,9 @@ walked_members (number n) document is = cc
 walked_members (string text) document is = cc
 walked_members (array items) document is = cc
 
-document_members : (d : Data) (document : Fields) → document_of d ≡ Ok document → (ds : Members) × (d ≡ object ds) × (members_at 2 ds ≡ Ok document)
-document_members d document is = walked_members d document (Ok-in_err fault_of (walked_document d) document is)
-
-pub document_rises : (d : Data) (document : Fields) → IsTidy d → document_of d ≡ Ok document → HasRisingNames document
+pub document_rises : (d : Data) (document : Fields) → IsTidy d → walked_document d ≡ Ok document → HasRisingNames document
 document_rises d document tidy is =
-    let m = document_members d document is in
+    let m = walked_members d document is in
     let sorted = subst IsTidy m.1 tidy in
     subst (IsStrictlySortedBy name_cmp) (sym (keys_read 2 m.0 document m.2)) sorted.0
 
@@ -210,9 +207,9 @@ mutual
       (both_few (levels_of x.0) (greatest (map (λ (f : List ℕ × Value). levels_of f.1) gs.0)) level
       (value_shallow level d x.0 l (Ok-in_err (under (to_name name)) (value_at level d) x.0 x.1)) (members_shallow level ds gs.0 l gs.1))
 
-pub document_shallow : (d : Data) (document : Fields) → document_of d ≡ Ok document → document_levels document ≤ 32
+pub document_shallow : (d : Data) (document : Fields) → walked_document d ≡ Ok document → document_levels document ≤ 32
 document_shallow d document is =
-    let m = document_members d document is in
+    let m = walked_members d document is in
     let few = members_shallow 2 m.0 document (omega arith) m.2 in
     omega arith
 
@@ -238,13 +235,13 @@ undotted_read : (o : Option (List ℕ)) (r : Read Fields) (filter : Fields) → 
 undotted_read (Some name) r filter is = cc
 undotted_read None r filter is = (refl, Ok-in_err (as_kind InValue) r filter is)
 
-filter_parts : (d : Data) (filter : Fields) → filter_of d ≡ Ok filter → (dotted_in d ≡ None) × (walked_document d ≡ Ok filter)
-filter_parts d filter is = undotted_read (dotted_in d) (walked_document d) filter (Ok-in_err filter_fault (walked_filter d) filter is)
+filter_parts : (d : Data) (filter : Fields) → walked_filter d ≡ Ok filter → (dotted_in d ≡ None) × (walked_document d ≡ Ok filter)
+filter_parts d filter is = undotted_read (dotted_in d) (walked_document d) filter is
 
-pub filter_read : (d : Data) (filter : Fields) → filter_of d ≡ Ok filter → document_of d ≡ Ok filter
-filter_read d filter is = ap (in_err fault_of) (filter_parts d filter is).1
+pub filter_read : (d : Data) (filter : Fields) → walked_filter d ≡ Ok filter → walked_document d ≡ Ok filter
+filter_read d filter is = (filter_parts d filter is).1
 
-pub filter_undotted : (d : Data) (filter : Fields) → filter_of d ≡ Ok filter → list_any (λ (f : List ℕ × Value). is_dotted f.0) filter ≡ false
+pub filter_undotted : (d : Data) (filter : Fields) → walked_filter d ≡ Ok filter → list_any (λ (f : List ℕ × Value). is_dotted f.0) filter ≡ false
 filter_undotted d filter is =
     let s = filter_parts d filter is in
     let m = walked_members d filter s.1 in

@@ -10,5 +10,4 @@ mod SamePlaces
 mod SetupLemmas
 mod SortedMembers
 mod StepLemmas
-mod UpdateLemmas
 mod WordLemmas

@@ -8,10 +8,15 @@ use Rattle.serde_json.specs.View.{items_view}
 use Rattle.serde_json.specs.declared.value.Value.{Value as Json}
 use Rattle.resh_value.specs.Paths.{to_place}
 use Rattle.resh_value.specs.Outcome.{and_then}
-use Rattle.resh_setup.specs.declared.fault.SetupFault.{SetupFault}
-use Rattle.resh_setup.specs.declared.fault.SetupFault.TheVariants.{OverLimit, NoMemory}
+use Rattle.resh_value.specs.declared.walk_fault.WalkFault.{WalkFault}
+use Rattle.resh_value.specs.declared.walk_fault.WalkFault.TheVariants.{At}
+use Rattle.resh_config.specs.declared.faults.FaultKind.{FaultKind}
+use Rattle.resh_config.specs.declared.faults.FaultKind.TheVariants.{OverLimit}
+use Rattle.resh_value.specs.declared.walk_fault.WalkFault.TheVariants.{NoMemory}
 use Rattle.resh_setup.specs.Names.{each_after}
-use Rattle.resh_config.specs.Walk.{Read, under, at_step, count, items_from, list_in, some_of}
+use Rattle.resh_value.specs.Walk.{under, at_step}
+use Rattle.resh_config.specs.Faults.{Read}
+use Rattle.resh_config.specs.Walk.{count, items_from, list_in, some_of}
 use Rattle.resh_config.proofs.Outcomes.{Ok-and_then, Ok-in_err, Ok-cond}
 use Rattle.resh_config.proofs.SortedMembers.{IsTidy, AreTidy}
 
@@ -34,7 +39,7 @@ module _ {A : Type 0} (read : List A → Data → Read A) where
   item_read before d ds a is = ap (λ r. and_then (λ x. items_from read (before ++ x ∷ []) ds) (at_step (to_place (length before)) r)) is
 
   -- an item has a fault
-  pub item_fault : (before : List A) (d : Data) (ds : Items) (inner outer : SetupFault) → (inner ≢ NoMemory → read before d ≡ Err inner)
+  pub item_fault : (before : List A) (d : Data) (ds : Items) (inner outer : WalkFault FaultKind) → (inner ≢ NoMemory → read before d ≡ Err inner)
       → (outer ≢ NoMemory → outer ≡ under (to_place (length before)) inner) → outer ≢ NoMemory → items_from read before (item d ds) ≡ Err outer
   item_fault before d ds inner outer here there real =
       ap (λ r. and_then (λ x. items_from read (before ++ x ∷ []) ds) (at_step (to_place (length before)) r)) (here (λ none. real (there real ∙ ap (under (to_place (length before))) none)))
@@ -73,7 +78,7 @@ module _ {A : Type 0} (read : List A → Data → Read A) where
   -- a list that was read keeps its limit
   pub within_limit : (limit : ℕ) (d : Data) (all : List A) → list_in limit read d ≡ Ok all → length all ≤ limit
   within_limit limit (array ds) all is =
-      let s = Ok-cond (ltb limit (count ds)) (OverLimit [] limit) (items_from read [] ds) all is in
+      let s = Ok-cond (ltb limit (count ds)) (At [] (OverLimit limit)) (items_from read [] ds) all is in
       let e = length-items_from [] ds all s.1 in
       omega (arith, ltb-false limit (count ds) s.0)
   within_limit limit null all is = cc
@@ -84,7 +89,7 @@ module _ {A : Type 0} (read : List A → Data → Read A) where
 
   -- the items of a list that was read
   pub Ok-list_in : (limit : ℕ) (d : Data) (all : List A) → list_in limit read d ≡ Ok all → (ds : Items) × (d ≡ array ds) × (items_from read [] ds ≡ Ok all)
-  Ok-list_in limit (array ds) all is = (ds, refl, (Ok-cond (ltb limit (count ds)) (OverLimit [] limit) (items_from read [] ds) all is).1)
+  Ok-list_in limit (array ds) all is = (ds, refl, (Ok-cond (ltb limit (count ds)) (At [] (OverLimit limit)) (items_from read [] ds) all is).1)
   Ok-list_in limit null all is = cc
   Ok-list_in limit (boolean b) all is = cc
   Ok-list_in limit (number n) all is = cc

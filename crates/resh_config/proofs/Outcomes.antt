@@ -6,8 +6,11 @@ use Rattle.serde_json.specs.Data.{Num, unsigned, negative, float, Data, null, bo
 use Rattle.serde_json.specs.Find.{get_member}
 use Rattle.resh_value.specs.Outcome.{and_then, in_err}
 use Rattle.resh_value.specs.Paths.{to_name}
-use Rattle.resh_setup.specs.declared.fault.SetupFault.TheVariants.{OverLimit, WrongKind}
-use Rattle.resh_config.specs.Walk.{Read, under, unlisted, listed_only, row_with, required, optional, field, field_or, number_in, accept}
+use Rattle.resh_value.specs.Walk.{ends}
+use Rattle.resh_config.specs.declared.faults.FaultKind.TheVariants.{OverLimit, WrongKind}
+use Rattle.resh_value.specs.Walk.{under}
+use Rattle.resh_config.specs.Faults.{Read}
+use Rattle.resh_config.specs.Walk.{unlisted, listed_only, row_with, required, optional, field, field_or, number_in, accept}
 use Rattle.resh_config.proofs.SortedMembers.{IsTidy, HasTidy, tidy_member}
 
 pub Ok-and_then : {A B E : Type 0} (f : A → Result B E) (r : Result A E) (b : B) → and_then f r ≡ Ok b → (a : A) × (r ≡ Ok a) × (f a ≡ Ok b)
@@ -74,12 +77,12 @@ Ok-accept false a c is = cc
 pub number_between : (low high : ℕ) (d : Data) (n : ℕ) → number_in low high d ≡ Ok n → (low ≤ n) × (n ≤ high)
 number_between low high (number (unsigned m)) n is = by (nat_lt m (2 ^ 63)) is
   where
-    within : (b c : Bool) → nat_le low m ≡ b → nat_le m high ≡ c → cond (b && c) (Ok m) (Err (OverLimit [] high)) ≡ Ok n → (low ≤ n) × (n ≤ high)
+    within : (b c : Bool) → nat_le low m ≡ b → nat_le m high ≡ c → cond (b && c) (Ok m) (ends (OverLimit high)) ≡ Ok n → (low ≤ n) × (n ≤ high)
     within true true p q e = let same : m ≡ n = cc in (grind (arith, nat_tests), grind (arith, nat_tests))
     within true false p q e = cc
     within false c p q e = cc
 
-    by : (b : Bool) → cond b (cond (nat_le low m && nat_le m high) (Ok m) (Err (OverLimit [] high))) (Err (WrongKind [])) ≡ Ok n → (low ≤ n) × (n ≤ high)
+    by : (b : Bool) → cond b (cond (nat_le low m && nat_le m high) (Ok m) (ends (OverLimit high))) (ends WrongKind) ≡ Ok n → (low ≤ n) × (n ≤ high)
     by true e = within (nat_le low m) (nat_le m high) refl refl e
     by false e = cc
 number_between low high (number (negative z)) n is = cc

@@ -17,8 +17,10 @@ use Rattle.resh_setup.specs.Validity.{ArePlanned}
 use Rattle.resh_setup.specs.declared.plan.Planned.{Planned}
 use Rattle.resh_setup.specs.declared.plan.Who.{Who}
 use Rattle.resh_setup.specs.declared.plan.Who.TheVariants.{Coordinator, Link, Lane}
-use Rattle.resh_setup.specs.declared.fault.SetupFault.TheVariants.{WrongKind}
-use Rattle.resh_config.specs.Walk.{Read, row_with, field, field_or, number_in, text_in}
+use Rattle.resh_value.specs.Walk.{ends}
+use Rattle.resh_config.specs.declared.faults.FaultKind.TheVariants.{WrongKind}
+use Rattle.resh_config.specs.Faults.{Read}
+use Rattle.resh_config.specs.Walk.{row_with, field, field_or, number_in, text_in}
 use Rattle.resh_config.specs.Names.{shard_named}
 use Rattle.resh_config.specs.Steps.{words_of, lane_named}
 use Rattle.resh_config.specs.Plan.{recipient_named, who_of, coordinator_of, who_with, who_in, commit_fate, delivery_fate, fate_named, fate_in, kind_name, kind_of, one_kind, plan_names, numbers_of, planned_of, planned_in, plan_in}
@@ -70,7 +72,7 @@ module _ (shards : List (List ℕ)) (lanes : ℕ) where
 commit_of_kind : (name : List ℕ) (fate : PlanFate) → commit_fate name ≡ Ok fate → is_of_kind Commit fate ≡ true
 commit_of_kind name fate is = by (same_name name (codes "crashedBefore")) (same_name name (codes "crashedAfter")) (same_name name (codes "failed")) is
   where
-    by : (a b c : Bool) → cond a (Ok CrashedBefore) (cond b (Ok CrashedAfter) (cond c (Ok Failed) (Err (WrongKind [])))) ≡ Ok fate → is_of_kind Commit fate ≡ true
+    by : (a b c : Bool) → cond a (Ok CrashedBefore) (cond b (Ok CrashedAfter) (cond c (Ok Failed) (ends WrongKind))) ≡ Ok fate → is_of_kind Commit fate ≡ true
     by true b c e = subst (λ f. is_of_kind Commit f ≡ true) (same_in_Ok CrashedBefore fate e) refl
     by false true c e = subst (λ f. is_of_kind Commit f ≡ true) (same_in_Ok CrashedAfter fate e) refl
     by false false true e = subst (λ f. is_of_kind Commit f ≡ true) (same_in_Ok Failed fate e) refl
@@ -79,7 +81,7 @@ commit_of_kind name fate is = by (same_name name (codes "crashedBefore")) (same_
 delivery_of_kind : (name : List ℕ) (fate : PlanFate) → delivery_fate name ≡ Ok fate → is_of_kind Deliver fate ≡ true
 delivery_of_kind name fate is = by (same_name name (codes "lost")) (same_name name (codes "twice")) is
   where
-    by : (a b : Bool) → cond a (Ok Lost) (cond b (Ok Twice) (Err (WrongKind []))) ≡ Ok fate → is_of_kind Deliver fate ≡ true
+    by : (a b : Bool) → cond a (Ok Lost) (cond b (Ok Twice) (ends WrongKind)) ≡ Ok fate → is_of_kind Deliver fate ≡ true
     by true b e = subst (λ f. is_of_kind Deliver f ≡ true) (same_in_Ok Lost fate e) refl
     by false true e = subst (λ f. is_of_kind Deliver f ≡ true) (same_in_Ok Twice fate e) refl
     by false false e = cc

@@ -16,7 +16,8 @@ use Rattle.resh_setup.specs.declared.event.Event.{Event}
 use Rattle.resh_setup.specs.declared.plan.Planned.{Planned}
 use Rattle.resh_setup.specs.declared.setup.Setup.{Setup}
 use Rattle.resh_config.specs.declared.maps.Maps.{Maps}
-use Rattle.resh_config.specs.Walk.{Read, field, field_or, row_with, number_in, list_in}
+use Rattle.resh_config.specs.Faults.{Read}
+use Rattle.resh_config.specs.Walk.{field, field_or, row_with, number_in, list_in}
 use Rattle.resh_config.specs.Names.{shards_in, key_in}
 use Rattle.resh_config.specs.Chunks.{chunk_row_in, tested_chunks, chunks_of, chunks_in}
 use Rattle.resh_config.specs.Clients.{clients_in}

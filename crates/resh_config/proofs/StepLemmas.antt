@@ -14,7 +14,8 @@ use Rattle.resh_config.specs.declared.step_word.LinkWord.{LinkWord}
 use Rattle.resh_config.specs.declared.step_word.LinkWord.TheVariants.{Clone, Fetch, Cut, Record, Crash}
 use Rattle.resh_config.specs.declared.step_word.StepWord.{StepWord}
 use Rattle.resh_config.specs.declared.step_word.StepWord.TheVariants as word
-use Rattle.resh_config.specs.Walk.{Read, text_in}
+use Rattle.resh_config.specs.Faults.{Read}
+use Rattle.resh_config.specs.Walk.{text_in}
 use Rattle.resh_config.specs.Names.{shard_named}
 use Rattle.resh_config.specs.Steps.{words_of, step_word, link_event, message_named, number_named, client_of, shard_of, retold_of, link_of, link_lane_named, lane_of, piece_with, piece_of, alone, step_with, step_of, step_in, steps_in}
 use Rattle.resh_config.proofs.Outcomes.{Ok-and_then, same_in_Ok}

@@ -15,8 +15,10 @@ use Rattle.resh_setup.specs.Names.{is_node_name}
 use Rattle.resh_setup.specs.Steps.{is_shard, is_link, is_lane}
 use Rattle.resh_setup.specs.Validity.{is_called}
 use Rattle.resh_setup.specs.declared.client.Client.{Client}
-use Rattle.resh_setup.specs.declared.fault.SetupFault.TheVariants.{WrongKind}
-use Rattle.resh_config.specs.Walk.{Read, accept}
+use Rattle.resh_value.specs.Walk.{ends}
+use Rattle.resh_config.specs.declared.faults.FaultKind.TheVariants.{WrongKind}
+use Rattle.resh_config.specs.Faults.{Read}
+use Rattle.resh_config.specs.Walk.{accept}
 use Rattle.resh_config.specs.Names.{found_shard, shard_named}
 use Rattle.resh_config.specs.Steps.{is_number, number_named, found_client, client_named, lane_named, link_named, link_of, link_lane_named, lane_of}
 use Rattle.resh_config.proofs.Outcomes.{Ok-and_then, Ok-accept, same_in_Ok}
@@ -85,7 +87,7 @@ shard_there shards name s is = by (is_node_name name) is
         let here : ShardId = record { 0 = i } in
         subst (λ (x : ShardId). is_shard (length shards) x ≡ true) (same_in_Ok here s e) (below i (length shards) within)
 
-    by : (b : Bool) → cond b (found_shard (position (same_name name) shards)) (Err (WrongKind [])) ≡ Ok s → is_shard (length shards) s ≡ true
+    by : (b : Bool) → cond b (found_shard (position (same_name name) shards)) (ends WrongKind) ≡ Ok s → is_shard (length shards) s ≡ true
     by true e = found (position (same_name name) shards) refl e
     by false e = cc
 
@@ -102,7 +104,7 @@ client_there clients name c is = by (is_node_name name) is
         let same : i ≡ c = cc in
         subst (λ (x : ℕ). nat_lt x (length clients) ≡ true) same (below i (length clients) within)
 
-    by : (b : Bool) → cond b (found_client (position (is_called name) clients)) (Err (WrongKind [])) ≡ Ok c → nat_lt c (length clients) ≡ true
+    by : (b : Bool) → cond b (found_client (position (is_called name) clients)) (ends WrongKind) ≡ Ok c → nat_lt c (length clients) ≡ true
     by true e = found (position (is_called name) clients) refl e
     by false e = cc
 

@@ -1,9 +1,9 @@
 -- Chunk maps: bounds, rows, and the map that they make.
-use Rattle.std.specs.Prelude.{ℕ, cond, List, [], ◌∷◌, length, codes, Option, Some, None, Ok, Err}
+use Rattle.std.specs.Prelude.{ℕ, cond, List, [], ◌∷◌, length, codes, Option, Some, None, Ok}
 use Rattle.serde_json.specs.Data.{Data, null, boolean, number, string, array, object, Members}
 use Rattle.resh_value.specs.Names.{same_name}
 use Rattle.resh_value.specs.Outcome.{in_err}
-use Rattle.resh_value.specs.FromJson.{value_of}
+use Rattle.resh_value.specs.FromJson.{walked_value}
 use Rattle.resh_value.specs.declared.value.Value.{Value}
 use Rattle.resh_value.specs.declared.value.ShardId.{ShardId}
 use Rattle.resh_chunks.specs.Chunks.{Chunks, chunk_fault}
@@ -11,26 +11,28 @@ use Rattle.resh_chunks.specs.declared.bound.Bound.{Bound}
 use Rattle.resh_chunks.specs.declared.bound.Bound.TheVariants.{Min, At, Max}
 use Rattle.resh_chunks.specs.declared.bound.ChunkRow.{ChunkRow}
 use Rattle.resh_chunks.specs.declared.faults.ChunkFault.{ChunkFault}
-use Rattle.resh_setup.specs.declared.fault.SetupFault.TheVariants.{WrongKind, Value as InValue, Chunks as InChunks}
-use Rattle.resh_config.specs.Walk.{Read, ◌>>=◌, row_with, field, text_in, items_from, list_in}
+use Rattle.resh_value.specs.Walk.{ends, as_kind}
+use Rattle.resh_config.specs.Faults.{Read}
+use Rattle.resh_config.specs.declared.faults.FaultKind.TheVariants.{WrongKind, Value as InValue, Chunks as InChunks}
+use Rattle.resh_config.specs.Walk.{◌>>=◌, row_with, field, text_in, items_from, list_in}
 use Rattle.resh_config.specs.Names.{shard_named}
 
 -- a chunk's bound: `"MinKey"`, `"MaxKey"` or the values that a key begins with
 abbrev pub bound_value_in : List Value → Data → Read Value
-bound_value_in before d = in_err InValue (value_of d)
+bound_value_in before d = in_err (as_kind InValue) (walked_value d)
 
 abbrev pub end_named : List ℕ → Read Bound
 end_named text =
     cond (same_name text (codes "MinKey")) (Ok Min)
-    (cond (same_name text (codes "MaxKey")) (Ok Max) (Err (WrongKind [])))
+    (cond (same_name text (codes "MaxKey")) (Ok Max) (ends WrongKind))
 
 abbrev pub bound_in : Data → Read Bound
 bound_in (string text) = end_named text
 bound_in (array ds) = items_from bound_value_in [] ds >>= λ key. Ok (At key)
-bound_in null = Err (WrongKind [])
-bound_in (boolean b) = Err (WrongKind [])
-bound_in (number n) = Err (WrongKind [])
-bound_in (object ds) = Err (WrongKind [])
+bound_in null = ends WrongKind
+bound_in (boolean b) = ends WrongKind
+bound_in (number n) = ends WrongKind
+bound_in (object ds) = ends WrongKind
 
 abbrev pub shard_in : List (List ℕ) → Data → Read ShardId
 shard_in shards d = text_in d >>= shard_named shards
@@ -48,7 +50,7 @@ chunk_row_in shards before d = row_with (codes "min" ∷ codes "max" ∷ codes "
 
 abbrev pub tested_chunks : Chunks → Option ChunkFault → Read Chunks
 tested_chunks chunks None = Ok chunks
-tested_chunks chunks (Some fault) = Err (InChunks [] fault)
+tested_chunks chunks (Some fault) = ends (InChunks fault)
 
 -- the map of some rows over a key
 abbrev pub chunks_of : List (List ℕ) → List (List ℕ) → List ChunkRow → Chunks

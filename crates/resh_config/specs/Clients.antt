@@ -1,21 +1,23 @@
 -- Clients and their commands.
-use Rattle.std.specs.Prelude.{ℕ, ◌+◌, Bool, false, cond, ◌&&◌, nat_lt, List, [], ◌∷◌, length, codes, Option, Some, None, is_none, is_some, option_and_then, unwrap_or, Ok, Err}
+use Rattle.std.specs.Prelude.{ℕ, ◌+◌, Bool, false, cond, ◌&&◌, nat_lt, List, [], ◌∷◌, length, codes, Option, Some, None, is_none, is_some, option_and_then, unwrap_or, Ok}
 use Rattle.std.specs.List.{list_all}
 use Rattle.serde_json.specs.Data.{Data, null, boolean, number, string, array, object, Members}
 use Rattle.serde_json.specs.Find.{get_member, as_bool}
 use Rattle.resh_value.specs.Outcome.{in_err}
-use Rattle.resh_filter.specs.Filters.{filter_of}
-use Rattle.resh_ops.specs.Reading.{update_of}
+use Rattle.resh_filter.specs.Filters.{walked_filter}
+use Rattle.resh_ops.specs.Reading.{walked_update}
 use Rattle.resh_ops.specs.declared.operator.Action.{Action}
 use Rattle.resh_shard.specs.declared.command.Command.{Command}
 use Rattle.resh_shard.specs.declared.command.Command.TheVariants.{Insert, Update, Delete, Find, Count, Abort}
 use Rattle.resh_setup.specs.Documents.{Document}
 use Rattle.resh_setup.specs.Validity.{command_count, is_new_name}
 use Rattle.resh_setup.specs.declared.client.Client.{Client}
-use Rattle.resh_setup.specs.declared.fault.SetupFault.TheVariants.{WrongKind, OverLimit, Update as InUpdate, Filter as InFilter}
 use Rattle.resh_config.specs.declared.form.Form.{Form}
 use Rattle.resh_config.specs.declared.form.Form.TheVariants.{Insert as ToInsert, Update as ToUpdate, Delete as ToDelete, Find as ToFind, Count as ToCount, Abort as ToAbort}
-use Rattle.resh_config.specs.Walk.{Read, ◌>>=◌, unlisted, field, row_with, text_in, count, items_from, list_in, accept}
+use Rattle.resh_value.specs.Walk.{ends, as_kind}
+use Rattle.resh_config.specs.Faults.{Read, in_update}
+use Rattle.resh_config.specs.declared.faults.FaultKind.TheVariants.{WrongKind, OverLimit, Filter as InFilter}
+use Rattle.resh_config.specs.Walk.{◌>>=◌, unlisted, field, row_with, text_in, count, items_from, list_in, accept}
 use Rattle.resh_config.specs.Documents.{document_in}
 
 -- an object has these names and no others
@@ -33,10 +35,10 @@ form_of ds =
     (cond (has_names (codes "abort" ∷ []) ds) (Some ToAbort) None)))))
 
 abbrev pub filter_in : Data → Read Document
-filter_in d = in_err InFilter (filter_of d)
+filter_in d = in_err (as_kind InFilter) (walked_filter d)
 
 abbrev pub update_in : Data → Read (List Action)
-update_in d = in_err (InUpdate []) (update_of d)
+update_in d = in_err in_update (walked_update d)
 
 abbrev pub says_true : Option Data → Bool
 says_true content = unwrap_or (option_and_then as_bool content) false
@@ -52,25 +54,25 @@ command_of ds (Some ToDelete) = field ds (codes "delete") filter_in >>= λ filte
 command_of ds (Some ToFind) = field ds (codes "find") filter_in >>= λ filter. Ok (Find filter)
 command_of ds (Some ToCount) = field ds (codes "count") filter_in >>= λ filter. Ok (Count filter)
 command_of ds (Some ToAbort) = accept (says_true (get_member (codes "abort") ds)) Abort
-command_of ds None = Err (WrongKind [])
+command_of ds None = ends WrongKind
 
 abbrev pub command_in : List Command → Data → Read Command
 command_in before (object ds) = command_of ds (form_of ds)
-command_in before null = Err (WrongKind [])
-command_in before (boolean b) = Err (WrongKind [])
-command_in before (number n) = Err (WrongKind [])
-command_in before (string text) = Err (WrongKind [])
-command_in before (array items) = Err (WrongKind [])
+command_in before null = ends WrongKind
+command_in before (boolean b) = ends WrongKind
+command_in before (number n) = ends WrongKind
+command_in before (string text) = ends WrongKind
+command_in before (array items) = ends WrongKind
 
 -- a client's commands; with those of the clients before it there are at most 20,000
 abbrev pub commands_in : List Client → Data → Read (List Command)
 commands_in before (array ds) =
-    cond (nat_lt 20000 (command_count before + count ds)) (Err (OverLimit [] 20000)) (items_from command_in [] ds)
-commands_in before null = Err (WrongKind [])
-commands_in before (boolean b) = Err (WrongKind [])
-commands_in before (number n) = Err (WrongKind [])
-commands_in before (string text) = Err (WrongKind [])
-commands_in before (object ds) = Err (WrongKind [])
+    cond (nat_lt 20000 (command_count before + count ds)) (ends (OverLimit 20000)) (items_from command_in [] ds)
+commands_in before null = ends WrongKind
+commands_in before (boolean b) = ends WrongKind
+commands_in before (number n) = ends WrongKind
+commands_in before (string text) = ends WrongKind
+commands_in before (object ds) = ends WrongKind
 
 -- a client's name, which no client before it has
 abbrev pub client_name_in : List Client → Data → Read (List ℕ)

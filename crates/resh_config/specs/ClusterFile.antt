@@ -1,5 +1,5 @@
 -- The cluster file: which setup a JSON value is, or its first fault.
-use Rattle.std.specs.Prelude.{◌≡◌, ℕ, List, [], ◌∷◌, codes, Option, Some, None, Ok, Err}
+use Rattle.std.specs.Prelude.{◌≡◌, ℕ, List, [], ◌∷◌, codes, Option, Some, None, Result, Ok, Err}
 use Rattle.std.specs.Str.{IsUtf8}
 use Rattle.serde_json.specs.Data.{Data, Members}
 use Rattle.serde_json.specs.Read.{read as read_text}
@@ -7,9 +7,13 @@ use Rattle.resh_chunks.specs.Chunks.{Chunks}
 use Rattle.resh_setup.specs.Documents.{Document, first_same}
 use Rattle.resh_setup.specs.declared.setup.Setup.{Setup}
 use Rattle.resh_setup.specs.declared.fault.SetupFault.{SetupFault}
-use Rattle.resh_setup.specs.declared.fault.SetupFault.TheVariants.{NotJson, SameId}
+use Rattle.resh_setup.specs.declared.fault.SetupFault.TheVariants.{NotJson}
 use Rattle.resh_config.specs.declared.maps.Maps.{Maps}
-use Rattle.resh_config.specs.Walk.{Read, ◌>>=◌, row_with, field, field_or, number_in, list_in}
+use Rattle.resh_value.specs.Outcome.{in_err}
+use Rattle.resh_value.specs.Walk.{ends}
+use Rattle.resh_config.specs.Faults.{Read, fault_of}
+use Rattle.resh_config.specs.declared.faults.FaultKind.TheVariants.{SameId}
+use Rattle.resh_config.specs.Walk.{◌>>=◌, row_with, field, field_or, number_in, list_in}
 use Rattle.resh_config.specs.Names.{shards_in, key_in}
 use Rattle.resh_config.specs.Chunks.{chunks_in}
 use Rattle.resh_config.specs.Documents.{document_in}
@@ -19,7 +23,7 @@ use Rattle.resh_config.specs.Plan.{plan_in}
 
 abbrev pub distinct_only : Option ℕ → List Document → Read (List Document)
 distinct_only None documents = Ok documents
-distinct_only (Some row) documents = Err (SameId row)
+distinct_only (Some row) documents = ends (SameId row)
 
 -- documents, no two of them at one place
 abbrev pub documents_in : Chunks → Data → Read (List Document)
@@ -76,8 +80,8 @@ abbrev pub IsReading : List ℕ → Data → Type 0
 IsReading bytes d = IsUtf8 bytes × (read_text bytes ≡ Some d)
 
 -- what the bytes are: what their reading is, or no JSON
-pub data IsOutcome (bytes : List ℕ) (outcome : Read Setup) : Type 0 where
-  read : (d : Data) → IsReading bytes d → setup_in d ≡ outcome → IsOutcome bytes outcome
+pub data IsOutcome (bytes : List ℕ) (outcome : Result Setup SetupFault) : Type 0 where
+  read : (d : Data) → IsReading bytes d → in_err fault_of (setup_in d) ≡ outcome → IsOutcome bytes outcome
   no_reading : (IsUtf8 bytes → read_text bytes ≡ None) → outcome ≡ Err NotJson → IsOutcome bytes outcome
 
 abbrev pub IsSetup : List ℕ → Setup → Type 0

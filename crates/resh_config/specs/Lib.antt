@@ -2,6 +2,7 @@ pub mod Chunks
 pub mod Clients
 pub mod ClusterFile
 pub mod Documents
+pub mod Faults
 pub mod Names
 pub mod Plan
 pub mod Steps

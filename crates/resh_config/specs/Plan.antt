@@ -1,5 +1,5 @@
 -- The rows of a plan.
-use Rattle.std.specs.Prelude.{ℕ, Bool, cond, ◌&&◌, List, [], ◌∷◌, codes, is_some, Ok, Err}
+use Rattle.std.specs.Prelude.{ℕ, Bool, cond, ◌&&◌, List, [], ◌∷◌, codes, is_some, Ok}
 use Rattle.serde_json.specs.Data.{Data, Members}
 use Rattle.serde_json.specs.Find.{get_member}
 use Rattle.resh_value.specs.Names.{same_name}
@@ -11,33 +11,44 @@ use Rattle.resh_luck.specs.declared.row.PlanFate.TheVariants.{CrashedBefore, Cra
 use Rattle.resh_setup.specs.declared.plan.Planned.{Planned}
 use Rattle.resh_setup.specs.declared.plan.Who.{Who}
 use Rattle.resh_setup.specs.declared.plan.Who.TheVariants.{Coordinator, Link, Lane}
-use Rattle.resh_setup.specs.declared.fault.SetupFault.TheVariants.{WrongKind, UnknownName}
-use Rattle.resh_config.specs.Walk.{Read, ◌>>=◌, row_with, field, field_or, number_in, text_in, list_in}
+use Rattle.resh_value.specs.Walk.{ends}
+use Rattle.resh_config.specs.Faults.{Read}
+use Rattle.resh_config.specs.declared.faults.FaultKind.TheVariants.{WrongKind, UnknownName}
+use Rattle.resh_config.specs.Walk.{◌>>=◌, row_with, field, field_or, number_in, text_in, list_in}
 use Rattle.resh_config.specs.Names.{shard_named}
 use Rattle.resh_config.specs.Steps.{words_of, lane_named}
 
 -- a plan's first word is `coordinator` or a recipient; an empty one names nothing
 abbrev pub recipient_named : List (List ℕ) → List ℕ → Read ShardId
-recipient_named shards [] = Err (UnknownName [])
+recipient_named shards [] = ends UnknownName
 recipient_named shards (b ∷ bs) = shard_named shards (b ∷ bs)
 
 abbrev pub coordinator_of : List (List ℕ) → Read Who
 coordinator_of [] = Ok Coordinator
-coordinator_of (w ∷ ws) = Err (WrongKind [])
+coordinator_of (w ∷ ws) = ends WrongKind
 
 module _ (shards : List (List ℕ)) (lanes : ℕ) where
   -- the link or the lane of a recipient, by the words after it
-  abbrev pub who_of : ShardId → List (List ℕ) → Read Who
-  who_of recipient [] = Err (WrongKind [])
-  who_of recipient (d ∷ []) = shard_named shards d >>= λ donor. Ok (Link recipient donor)
-  who_of recipient (d ∷ l ∷ []) =
+  abbrev pub link_who : ShardId → List ℕ → Read Who
+  link_who recipient d = shard_named shards d >>= λ donor. Ok (Link recipient donor)
+
+  abbrev pub lane_who : ShardId → List ℕ → List ℕ → Read Who
+  lane_who recipient d l =
       shard_named shards d >>= λ donor.
       lane_named lanes l >>= λ lane.
       Ok (Lane recipient donor lane)
-  who_of recipient (d ∷ l ∷ w ∷ ws) = Err (WrongKind [])
+
+  abbrev pub who_after : ShardId → List ℕ → List (List ℕ) → Read Who
+  who_after recipient d [] = link_who recipient d
+  who_after recipient d (l ∷ []) = lane_who recipient d l
+  who_after recipient d (l ∷ w ∷ ws) = ends WrongKind
+
+  abbrev pub who_of : ShardId → List (List ℕ) → Read Who
+  who_of recipient [] = ends WrongKind
+  who_of recipient (d ∷ ws) = who_after recipient d ws
 
   abbrev pub who_with : List (List ℕ) → Read Who
-  who_with [] = Err (UnknownName [])
+  who_with [] = ends UnknownName
   who_with (w ∷ ws) =
       cond (same_name w (codes "coordinator")) (coordinator_of ws)
       (recipient_named shards w >>= λ recipient. who_of recipient ws)
@@ -50,12 +61,12 @@ abbrev pub commit_fate : List ℕ → Read PlanFate
 commit_fate name =
     cond (same_name name (codes "crashedBefore")) (Ok CrashedBefore)
     (cond (same_name name (codes "crashedAfter")) (Ok CrashedAfter)
-    (cond (same_name name (codes "failed")) (Ok Failed) (Err (WrongKind []))))
+    (cond (same_name name (codes "failed")) (Ok Failed) (ends WrongKind)))
 
 abbrev pub delivery_fate : List ℕ → Read PlanFate
 delivery_fate name =
     cond (same_name name (codes "lost")) (Ok Lost)
-    (cond (same_name name (codes "twice")) (Ok Twice) (Err (WrongKind [])))
+    (cond (same_name name (codes "twice")) (Ok Twice) (ends WrongKind))
 
 abbrev pub fate_named : Kind → List ℕ → Read PlanFate
 fate_named Commit name = commit_fate name
@@ -78,7 +89,7 @@ abbrev pub has_both_kinds : Members → Bool
 has_both_kinds ds = is_some (get_member (codes "commit") ds) && is_some (get_member (codes "deliver") ds)
 
 abbrev pub one_kind : Members → Read Members
-one_kind ds = cond (has_both_kinds ds) (Err (WrongKind [])) (Ok ds)
+one_kind ds = cond (has_both_kinds ds) (ends WrongKind) (Ok ds)
 
 abbrev pub plan_names : List (List ℕ)
 plan_names = codes "who" ∷ codes "commit" ∷ codes "deliver" ∷ codes "through" ∷ codes "fate" ∷ []

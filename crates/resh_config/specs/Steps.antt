@@ -1,5 +1,5 @@
 -- Steps: texts of words with one space between.
-use Rattle.std.specs.Prelude.{ℕ, Bool, cond, not, ◌&&◌, ◌||◌, ◌==◌, nat_lt, nat_le, List, [], ◌∷◌, length, slice_index, position, codes, Option, Some, None, option_map, Ok, Err}
+use Rattle.std.specs.Prelude.{ℕ, Bool, cond, not, ◌&&◌, ◌||◌, ◌==◌, nat_lt, nat_le, List, [], ◌∷◌, length, slice_index, position, codes, Option, Some, None, option_map, Ok}
 use Rattle.std.specs.Char.{is_ascii_digit}
 use Rattle.std.specs.List.{list_all, slice_split}
 use Rattle.std.specs.Str.Parse.{digits_value}
@@ -13,12 +13,14 @@ use Rattle.resh_setup.specs.declared.event.Event.{Event}
 use Rattle.resh_setup.specs.declared.event.Event.TheVariants as event
 use Rattle.resh_setup.specs.declared.event.MessageKind.{MessageKind}
 use Rattle.resh_setup.specs.declared.event.MessageKind.TheVariants.{Prepare, Donate, Block, Install, Release}
-use Rattle.resh_setup.specs.declared.fault.SetupFault.TheVariants.{WrongKind, UnknownName}
 use Rattle.resh_config.specs.declared.step_word.LinkWord.{LinkWord}
 use Rattle.resh_config.specs.declared.step_word.LinkWord.TheVariants.{Clone, Fetch, Cut, Record, Crash}
 use Rattle.resh_config.specs.declared.step_word.StepWord.{StepWord}
 use Rattle.resh_config.specs.declared.step_word.StepWord.TheVariants as word
-use Rattle.resh_config.specs.Walk.{Read, ◌>>=◌, text_in, list_in, accept}
+use Rattle.resh_value.specs.Walk.{ends}
+use Rattle.resh_config.specs.Faults.{Read}
+use Rattle.resh_config.specs.declared.faults.FaultKind.TheVariants.{WrongKind, UnknownName}
+use Rattle.resh_config.specs.Walk.{◌>>=◌, text_in, list_in, accept}
 use Rattle.resh_config.specs.Names.{shard_named}
 
 -- the words of a text, which is cut at each space
@@ -67,16 +69,16 @@ message_named name =
     (cond (same_name name (codes "donate")) (Ok Donate)
     (cond (same_name name (codes "block")) (Ok Block)
     (cond (same_name name (codes "install")) (Ok Install)
-    (cond (same_name name (codes "release")) (Ok Release) (Err (WrongKind []))))))
+    (cond (same_name name (codes "release")) (Ok Release) (ends WrongKind)))))
 
 -- the number of a client that is there
 abbrev pub found_client : Option ℕ → Read ℕ
-found_client None = Err (UnknownName [])
+found_client None = ends UnknownName
 found_client (Some c) = Ok c
 
 abbrev pub client_named : List Client → List ℕ → Read ℕ
 client_named clients name =
-    cond (is_node_name name) (found_client (position (is_called name) clients)) (Err (WrongKind []))
+    cond (is_node_name name) (found_client (position (is_called name) clients)) (ends WrongKind)
 
 -- a lane is a number below so many
 abbrev pub lane_named : ℕ → List ℕ → Read ℕ
@@ -86,8 +88,8 @@ lane_named lanes text = number_named text >>= λ lane. accept (nat_lt lane lanes
 module _ (shards : List (List ℕ)) where
   abbrev pub shard_of : List (List ℕ) → Read ShardId
   shard_of (s ∷ []) = shard_named shards s
-  shard_of [] = Err (WrongKind [])
-  shard_of (s ∷ w ∷ ws) = Err (WrongKind [])
+  shard_of [] = ends WrongKind
+  shard_of (s ∷ w ∷ ws) = ends WrongKind
 
   -- a shard and a message
   abbrev pub retold_named : List ℕ → List ℕ → Read (ShardId × MessageKind)
@@ -98,9 +100,9 @@ module _ (shards : List (List ℕ)) where
 
   abbrev pub retold_of : List (List ℕ) → Read (ShardId × MessageKind)
   retold_of (s ∷ m ∷ []) = retold_named s m
-  retold_of [] = Err (WrongKind [])
-  retold_of (s ∷ []) = Err (WrongKind [])
-  retold_of (s ∷ m ∷ w ∷ ws) = Err (WrongKind [])
+  retold_of [] = ends WrongKind
+  retold_of (s ∷ []) = ends WrongKind
+  retold_of (s ∷ m ∷ w ∷ ws) = ends WrongKind
 
   -- a recipient and a donor
   abbrev pub link_named : List ℕ → List ℕ → Read (ShardId × ShardId)
@@ -111,9 +113,9 @@ module _ (shards : List (List ℕ)) where
 
   abbrev pub link_of : List (List ℕ) → Read (ShardId × ShardId)
   link_of (r ∷ d ∷ []) = link_named r d
-  link_of [] = Err (WrongKind [])
-  link_of (r ∷ []) = Err (WrongKind [])
-  link_of (r ∷ d ∷ w ∷ ws) = Err (WrongKind [])
+  link_of [] = ends WrongKind
+  link_of (r ∷ []) = ends WrongKind
+  link_of (r ∷ d ∷ w ∷ ws) = ends WrongKind
 
   module _ (lanes : ℕ) where
     -- a recipient, a donor and a lane of the recipient
@@ -125,10 +127,10 @@ module _ (shards : List (List ℕ)) where
 
     abbrev pub lane_of : List (List ℕ) → Read ((ShardId × ShardId) × ℕ)
     lane_of (r ∷ d ∷ l ∷ []) = link_lane_named r d l
-    lane_of [] = Err (WrongKind [])
-    lane_of (r ∷ []) = Err (WrongKind [])
-    lane_of (r ∷ d ∷ []) = Err (WrongKind [])
-    lane_of (r ∷ d ∷ l ∷ w ∷ ws) = Err (WrongKind [])
+    lane_of [] = ends WrongKind
+    lane_of (r ∷ []) = ends WrongKind
+    lane_of (r ∷ d ∷ []) = ends WrongKind
+    lane_of (r ∷ d ∷ l ∷ w ∷ ws) = ends WrongKind
 
     -- and a position in the lane's feed
     abbrev pub piece_named : List ℕ → List ℕ → List ℕ → List ℕ
@@ -140,29 +142,29 @@ module _ (shards : List (List ℕ)) where
 
     abbrev pub piece_with : List ℕ → List ℕ → List ℕ → List (List ℕ)
         → Read (((ShardId × ShardId) × ℕ) × ℕ)
-    piece_with r d l [] = Err (WrongKind [])
+    piece_with r d l [] = ends WrongKind
     piece_with r d l (n ∷ []) = piece_named r d l n
-    piece_with r d l (n ∷ w ∷ ws) = Err (WrongKind [])
+    piece_with r d l (n ∷ w ∷ ws) = ends WrongKind
 
     abbrev pub piece_of : List (List ℕ) → Read (((ShardId × ShardId) × ℕ) × ℕ)
-    piece_of [] = Err (WrongKind [])
-    piece_of (r ∷ []) = Err (WrongKind [])
-    piece_of (r ∷ d ∷ []) = Err (WrongKind [])
+    piece_of [] = ends WrongKind
+    piece_of (r ∷ []) = ends WrongKind
+    piece_of (r ∷ d ∷ []) = ends WrongKind
     piece_of (r ∷ d ∷ l ∷ ws) = piece_with r d l ws
 
 abbrev pub client_of : List Client → List (List ℕ) → Read ℕ
 client_of clients (c ∷ []) = client_named clients c
-client_of clients [] = Err (WrongKind [])
-client_of clients (c ∷ w ∷ ws) = Err (WrongKind [])
+client_of clients [] = ends WrongKind
+client_of clients (c ∷ w ∷ ws) = ends WrongKind
 
 abbrev pub alone : Event → List (List ℕ) → Read Event
 alone event [] = Ok event
-alone event (w ∷ ws) = Err (WrongKind [])
+alone event (w ∷ ws) = ends WrongKind
 
 -- the forms of the steps
 module _ (shards : List (List ℕ)) (clients : List Client) (lanes : ℕ) where
   abbrev pub step_with : Option StepWord → List (List ℕ) → Read Event
-  step_with None ws = Err (UnknownName [])
+  step_with None ws = ends UnknownName
   step_with (Some word.Client) ws = client_of clients ws >>= λ c. Ok (event.Client c)
   step_with (Some word.Begin) ws = alone event.Begin ws
   step_with (Some word.Tell) ws = shard_of shards ws >>= λ s. Ok (event.Tell s)
@@ -174,7 +176,7 @@ module _ (shards : List (List ℕ)) (clients : List Client) (lanes : ℕ) where
   step_with (Some word.Report) ws = shard_of shards ws >>= λ r. Ok (event.Report r)
 
   abbrev pub step_of : List (List ℕ) → Read Event
-  step_of [] = Err (UnknownName [])
+  step_of [] = ends UnknownName
   step_of (w ∷ ws) = step_with (step_word w) ws
 
   abbrev pub step_in : List Event → Data → Read Event

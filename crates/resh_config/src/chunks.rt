@@ -5,14 +5,13 @@ ghost use Rattle.serde_json.specs.View.{members_view};
 ghost use Rattle.resh_value.specs.Outcome.{Gives};
 ghost use Rattle.resh_config.specs.Chunks.{bound_value_in, end_named, bound_in, shard_in, row_of, chunk_row_in, chunks_in};
 
-use crate::faults::{in_value, no_path, wrong_kind};
+use crate::faults::{Fault, chunk_fault, in_value, wrong_kind};
 use crate::lists::{ItemReader, items_of, list_in};
 use crate::names::is_same;
 use crate::walk::{FieldReader, required, row_with, text_in};
 use crate::words::shard_named;
 use resh_chunks::{Bound, ChunkMap, ChunkRow, KeyPattern};
-use resh_setup::SetupFault;
-use resh_value::{Names, ShardId, Value};
+use resh_value::{Names, ShardId, Value, WalkFault};
 use serde_json::{Map, Value as Json};
 use std::alloc::Global;
 
@@ -32,16 +31,13 @@ impl FieldReader for Chunks<'_> {
 
     ghost reads = { λ c. chunks_in c.shards.now c.key };
 
-    fn read(self, alloc: Global, json: &Json) -> Result<ChunkMap, SetupFault> {
+    fn read(self, alloc: Global, json: &Json) -> Result<ChunkMap, Fault> {
         let Chunks { shards, key } = self;
         let count = shards.len() as u32;
         match list_in(alloc, &mut Row { shards }, MOST_CHUNKS, json) {
             Ok(rows) => match ChunkMap::new(key, rows.into_vec(), count) {
                 Ok(map) => Ok(map),
-                Err(fault) => Err(SetupFault::Chunks {
-                    path: no_path(alloc),
-                    fault,
-                }),
+                Err(fault) => Err(chunk_fault(alloc, fault)),
             },
             Err(fault) => Err(fault),
         }
@@ -64,19 +60,15 @@ impl ItemReader for Row<'_> {
         alloc: Global,
         _before: &[ChunkRow],
         json: &Json,
-    ) -> Result<ChunkRow, SetupFault> {
+    ) -> Result<ChunkRow, Fault> {
         let members = row_with(alloc, json, &["min", "max", "shard"])?;
         row_of(alloc, members, self.shards)
     }
 }
 
-fn row_of(
-    alloc: Global,
-    members: &Map<String, Json>,
-    shards: &Names,
-) -> Result<ChunkRow, SetupFault>
+fn row_of(alloc: Global, members: &Map<String, Json>, shards: &Names) -> Result<ChunkRow, Fault>
     requires { length shards.now ≤ 8 }
-    ensures { Gives SetupFault.NoMemory result (row_of shards.now (members_view members.now.entries)) }
+    ensures { Gives WalkFault.NoMemory result (row_of shards.now (members_view members.now.entries)) }
 {
     let min = required(alloc, members, "min", End)?;
     let max = required(alloc, members, "max", End)?;
@@ -93,7 +85,7 @@ impl FieldReader for End {
 
     ghost reads = { λ _. bound_in };
 
-    fn read(self, alloc: Global, json: &Json) -> Result<Bound, SetupFault> {
+    fn read(self, alloc: Global, json: &Json) -> Result<Bound, Fault> {
         match json {
             Json::String(text) => end_named(alloc, text.as_str()),
             Json::Array(items) => match items_of(alloc, &mut KeyValue, items) {
@@ -105,7 +97,7 @@ impl FieldReader for End {
     }
 }
 
-fn end_named(alloc: Global, text: &str) -> Result<Bound, SetupFault>
+fn end_named(alloc: Global, text: &str) -> Result<Bound, Fault>
     ensures { result ≡ end_named text.now }
 {
     if is_same(text, "MinKey") {
@@ -125,8 +117,8 @@ impl ItemReader for KeyValue {
 
     ghost reads = { λ _. bound_value_in };
 
-    fn read(&mut self, alloc: Global, _before: &[Value], json: &Json) -> Result<Value, SetupFault> {
-        match Value::from_json(alloc, json, &no_path(alloc)) {
+    fn read(&mut self, alloc: Global, _before: &[Value], json: &Json) -> Result<Value, Fault> {
+        match Value::walk(alloc, json) {
             Ok(value) => Ok(value),
             Err(fault) => Err(in_value(fault)),
         }
@@ -145,7 +137,7 @@ impl FieldReader for Shard<'_> {
 
     ghost reads = { λ s. shard_in s.shards.now };
 
-    fn read(self, alloc: Global, json: &Json) -> Result<ShardId, SetupFault> {
+    fn read(self, alloc: Global, json: &Json) -> Result<ShardId, Fault> {
         match text_in(alloc, json) {
             Ok(name) => shard_named(alloc, name, self.shards.as_slice()),
             Err(fault) => Err(fault),

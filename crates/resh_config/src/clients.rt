@@ -8,11 +8,12 @@ ghost use Rattle.resh_setup.specs.Validity.{is_called, is_new_name};
 ghost use Rattle.resh_config.specs.Clients.{client_name_in, client_of, client_in, clients_in};
 
 use crate::commands::ClientCommands;
+use crate::faults::Fault;
 use crate::lists::{ItemReader, list_in};
 use crate::names::{accept, is_node_name, is_same};
 use crate::walk::{FieldReader, required, row_with, text_in};
-use resh_setup::{Client, Clients, SetupFault};
-use resh_value::Words;
+use resh_setup::{Client, Clients};
+use resh_value::{WalkFault, Words};
 use serde_json::{Map, Value as Json};
 use std::alloc::Global;
 
@@ -28,7 +29,7 @@ impl FieldReader for ClientList {
 
     ghost reads = { λ _. clients_in };
 
-    fn read(self, alloc: Global, json: &Json) -> Result<Clients, SetupFault> {
+    fn read(self, alloc: Global, json: &Json) -> Result<Clients, Fault> {
         list_in(alloc, &mut ClientRow, MOST_CLIENTS, json)
     }
 }
@@ -41,23 +42,14 @@ impl ItemReader for ClientRow {
 
     ghost reads = { λ _. client_in };
 
-    fn read(
-        &mut self,
-        alloc: Global,
-        before: &[Client],
-        json: &Json,
-    ) -> Result<Client, SetupFault> {
+    fn read(&mut self, alloc: Global, before: &[Client], json: &Json) -> Result<Client, Fault> {
         let members = row_with(alloc, json, &["name", "commands"])?;
         client_of(alloc, before, members)
     }
 }
 
-fn client_of(
-    alloc: Global,
-    before: &[Client],
-    members: &Map<String, Json>,
-) -> Result<Client, SetupFault>
-    ensures { Gives SetupFault.NoMemory result (client_of before.now (members_view members.now.entries)) }
+fn client_of(alloc: Global, before: &[Client], members: &Map<String, Json>) -> Result<Client, Fault>
+    ensures { Gives WalkFault.NoMemory result (client_of before.now (members_view members.now.entries)) }
 {
     let name = required(alloc, members, "name", ClientName { before })?;
     let commands = required(alloc, members, "commands", ClientCommands { before })?;
@@ -74,7 +66,7 @@ impl FieldReader for ClientName<'_> {
 
     ghost reads = { λ c. client_name_in c.before.now };
 
-    fn read(self, alloc: Global, json: &Json) -> Result<Words, SetupFault> {
+    fn read(self, alloc: Global, json: &Json) -> Result<Words, Fault> {
         match text_in(alloc, json) {
             Ok(name) => accept(alloc, is_new_name(self.before, name), name),
             Err(fault) => Err(fault),

@@ -8,19 +8,21 @@ ghost use Rattle.resh_config.specs.ClusterFile.{maps_in, rest_in, setup_of, setu
 use crate::chunks::Chunks;
 use crate::clients::ClientList;
 use crate::documents::Collection;
+use crate::faults::Fault;
 use crate::maps::Maps;
 use crate::names::{Key, Shards};
 use crate::plan::PlanRows;
 use crate::steps::Steps;
 use crate::walk::{NumberIn, optional, required, row_with};
 use crate::words::Known;
-use resh_setup::{Clients, Events, Plan, Setup, SetupFault};
+use resh_setup::{Clients, Events, Plan, Setup};
+use resh_value::WalkFault;
 use serde_json::{Map, Value as Json};
 use std::alloc::Global;
 
 /// The setup that a JSON value is, or the first fault of the walk through it.
-pub(crate) fn setup_in(alloc: Global, json: &Json) -> Result<Setup, SetupFault>
-    ensures { Gives SetupFault.NoMemory result (setup_in (view json.now)) }
+pub(crate) fn setup_in(alloc: Global, json: &Json) -> Result<Setup, Fault>
+    ensures { Gives WalkFault.NoMemory result (setup_in (view json.now)) }
 {
     let names = [
         "version",
@@ -43,8 +45,8 @@ pub(crate) fn setup_in(alloc: Global, json: &Json) -> Result<Setup, SetupFault>
 }
 
 #[tactic(auto, using(crate::proofs::SetupLemmas::few_in_maps))]
-fn setup_of(alloc: Global, members: &Map<String, Json>) -> Result<Setup, SetupFault>
-    ensures { Gives SetupFault.NoMemory result (setup_of (members_view members.now.entries)) }
+fn setup_of(alloc: Global, members: &Map<String, Json>) -> Result<Setup, Fault>
+    ensures { Gives WalkFault.NoMemory result (setup_of (members_view members.now.entries)) }
 {
     match maps_in(alloc, members) {
         Ok(maps) => rest_in(alloc, maps, members),
@@ -54,8 +56,8 @@ fn setup_of(alloc: Global, members: &Map<String, Json>) -> Result<Setup, SetupFa
 
 /// The fields before the documents.
 #[tactic(auto, using(crate::proofs::KeyLemmas::few_shards))]
-fn maps_in(alloc: Global, members: &Map<String, Json>) -> Result<Maps, SetupFault>
-    ensures { Gives SetupFault.NoMemory result (maps_in (members_view members.now.entries)) }
+fn maps_in(alloc: Global, members: &Map<String, Json>) -> Result<Maps, Fault>
+    ensures { Gives WalkFault.NoMemory result (maps_in (members_view members.now.entries)) }
 {
     required(alloc, members, "version", NumberIn { low: 1, high: 1 })?;
     let shards = required(alloc, members, "shards", Shards)?;
@@ -80,9 +82,9 @@ fn maps_in(alloc: Global, members: &Map<String, Json>) -> Result<Maps, SetupFaul
 
 /// The documents and the fields after them.
 #[tactic(auto, using(crate::proofs::ClientLemmas::few_clients))]
-fn rest_in(alloc: Global, maps: Maps, members: &Map<String, Json>) -> Result<Setup, SetupFault>
+fn rest_in(alloc: Global, maps: Maps, members: &Map<String, Json>) -> Result<Setup, Fault>
     requires { length maps.shards ≤ 8 }
-    ensures { Gives SetupFault.NoMemory result (rest_in maps (members_view members.now.entries)) }
+    ensures { Gives WalkFault.NoMemory result (rest_in maps (members_view members.now.entries)) }
 {
     let Maps {
         shards,

@@ -11,14 +11,15 @@ ghost use Rattle.resh_setup.specs.Validity.{command_count};
 ghost use Rattle.resh_config.specs.Clients.{form_of, filter_in, update_in, says_true, command_of, command_in, commands_in};
 
 use crate::documents::Inserted;
-use crate::faults::{in_filter, in_update, no_path, over_limit, wrong_kind};
+use crate::faults::{Fault, in_filter, in_update, over_limit, wrong_kind};
 use crate::form::Form;
 use crate::lists::{ItemReader, count, items_of};
 use crate::walk::{FieldReader, member, required, unlisted};
 use resh_filter::Filter;
 use resh_ops::Update;
-use resh_setup::{Client, SetupFault};
+use resh_setup::Client;
 use resh_shard::{Command, Commands};
+use resh_value::WalkFault;
 use serde_json::{Map, Value as Json};
 use std::alloc::Global;
 
@@ -36,7 +37,7 @@ impl FieldReader for ClientCommands<'_> {
 
     ghost reads = { λ c. commands_in c.before.now };
 
-    fn read(self, alloc: Global, json: &Json) -> Result<Commands, SetupFault> {
+    fn read(self, alloc: Global, json: &Json) -> Result<Commands, Fault> {
         match json {
             Json::Array(items) => {
                 if are_too_many(self.before, count(items)) {
@@ -73,12 +74,7 @@ impl ItemReader for CommandReader {
 
     ghost reads = { λ _. command_in };
 
-    fn read(
-        &mut self,
-        alloc: Global,
-        _before: &[Command],
-        json: &Json,
-    ) -> Result<Command, SetupFault> {
+    fn read(&mut self, alloc: Global, _before: &[Command], json: &Json) -> Result<Command, Fault> {
         match json {
             Json::Object(members) => command_of(alloc, members, form_of(members)),
             _ => Err(wrong_kind(alloc)),
@@ -136,8 +132,8 @@ fn command_of(
     alloc: Global,
     members: &Map<String, Json>,
     form: Option<Form>,
-) -> Result<Command, SetupFault>
-    ensures { Gives SetupFault.NoMemory result (command_of (members_view members.now.entries) form) }
+) -> Result<Command, Fault>
+    ensures { Gives WalkFault.NoMemory result (command_of (members_view members.now.entries) form) }
 {
     match form {
         Some(Form::Insert) => {
@@ -189,8 +185,8 @@ impl FieldReader for FilterReader {
 
     ghost reads = { λ _. filter_in };
 
-    fn read(self, alloc: Global, json: &Json) -> Result<Filter, SetupFault> {
-        match Filter::read(alloc, json, &no_path(alloc)) {
+    fn read(self, alloc: Global, json: &Json) -> Result<Filter, Fault> {
+        match Filter::walk(alloc, json) {
             Ok(filter) => Ok(filter),
             Err(fault) => Err(in_filter(fault)),
         }
@@ -205,8 +201,8 @@ impl FieldReader for UpdateReader {
 
     ghost reads = { λ _. update_in };
 
-    fn read(self, alloc: Global, json: &Json) -> Result<Update, SetupFault> {
-        match Update::read(alloc, json, &no_path(alloc)) {
+    fn read(self, alloc: Global, json: &Json) -> Result<Update, Fault> {
+        match Update::walk(alloc, json) {
             Ok(update) => Ok(update),
             Err(fault) => Err(in_update(alloc, fault)),
         }

@@ -9,12 +9,11 @@ ghost use Rattle.resh_setup.specs.Documents.{is_id, first_same};
 ghost use Rattle.resh_config.specs.Documents.{with_rules, document_in};
 ghost use Rattle.resh_config.specs.ClusterFile.{documents_in, distinct_only};
 
-use crate::faults::{in_value, no_id, no_path, over_limit};
+use crate::faults::{Fault, in_value, no_id, over_limit, same_id};
 use crate::lists::{ItemReader, list_in};
 use crate::walk::FieldReader;
 use resh_chunks::ChunkMap;
-use resh_setup::SetupFault;
-use resh_value::{Document, Documents, NoMemory, Value};
+use resh_value::{Document, Documents, NoMemory, Value, WalkFault};
 use serde_json::Value as Json;
 use std::alloc::Global;
 use std::collections::BTreeSet;
@@ -36,7 +35,7 @@ impl FieldReader for Collection<'_> {
 
     ghost reads = { λ c. documents_in c.map.now };
 
-    fn read(self, alloc: Global, json: &Json) -> Result<Documents, SetupFault> {
+    fn read(self, alloc: Global, json: &Json) -> Result<Documents, Fault> {
         match list_in(alloc, &mut DocumentReader::new(alloc), MOST_DOCUMENTS, json) {
             Ok(documents) => distinct_only(alloc, self.map, documents),
             Err(fault) => Err(fault),
@@ -44,17 +43,13 @@ impl FieldReader for Collection<'_> {
     }
 }
 
-fn distinct_only(
-    alloc: Global,
-    map: &ChunkMap,
-    documents: Documents,
-) -> Result<Documents, SetupFault>
-    ensures { Gives SetupFault.NoMemory result (distinct_only (first_same map.now [] documents) documents) }
+fn distinct_only(alloc: Global, map: &ChunkMap, documents: Documents) -> Result<Documents, Fault>
+    ensures { Gives WalkFault.NoMemory result (distinct_only (first_same map.now [] documents) documents) }
 {
     match first_same(alloc, map, documents.as_slice()) {
         Ok(None) => Ok(documents),
-        Ok(Some(row)) => Err(SetupFault::SameId { row }),
-        Err(NoMemory) => Err(SetupFault::NoMemory),
+        Ok(Some(row)) => Err(same_id(alloc, row)),
+        Err(NoMemory) => Err(WalkFault::NoMemory),
     }
 }
 
@@ -104,8 +99,8 @@ impl DocumentReader {
         }
     }
 
-    fn with_rules(&mut self, alloc: Global, document: Document) -> Result<Document, SetupFault>
-        ensures { Gives SetupFault.NoMemory result (with_rules document) }
+    fn with_rules(&mut self, alloc: Global, document: Document) -> Result<Document, Fault>
+        ensures { Gives WalkFault.NoMemory result (with_rules document) }
     {
         if !has_id(&document) {
             return Err(no_id(alloc));
@@ -117,7 +112,7 @@ impl DocumentReader {
                 }
                 Ok(document)
             }
-            Err(NoMemory) => Err(SetupFault::NoMemory),
+            Err(NoMemory) => Err(WalkFault::NoMemory),
         }
     }
 
@@ -143,8 +138,8 @@ impl ItemReader for DocumentReader {
         alloc: Global,
         _before: &[Document],
         json: &Json,
-    ) -> Result<Document, SetupFault> {
-        match Document::from_json(alloc, json, &no_path(alloc)) {
+    ) -> Result<Document, Fault> {
+        match Document::walk(alloc, json) {
             Ok(document) => self.with_rules(alloc, document),
             Err(fault) => Err(in_value(fault)),
         }
@@ -160,7 +155,7 @@ impl FieldReader for Inserted {
 
     ghost reads = { λ _. document_in [] };
 
-    fn read(self, alloc: Global, json: &Json) -> Result<Document, SetupFault> {
+    fn read(self, alloc: Global, json: &Json) -> Result<Document, Fault> {
         DocumentReader::new(alloc).read(alloc, &[], json)
     }
 }

@@ -1,176 +1,186 @@
-//! Faults of a cluster file, and how they are seen from further out.
+//! What a walk through a cluster file finds, and the fault that is answered.
 
 ghost use Rattle.std.specs.Prelude.{◌≡◌, ◌≢◌, ◌++◌, [], IfOk};
-ghost use Rattle.resh_value.specs.FromJson.{under as value_under};
-ghost use Rattle.resh_filter.specs.Filters.{under as filter_under};
-ghost use Rattle.resh_ops.specs.Reading.{under as update_under};
-ghost use Rattle.resh_value.specs.Paths.{to_name, to_place};
-ghost use Rattle.resh_config.specs.Walk.{under, IsUnlessNoMemory};
+ghost use Rattle.resh_value.specs.Paths.{to_name};
+ghost use Rattle.resh_value.specs.Walk.{under, as_kind};
+ghost use Rattle.resh_config.specs.Faults.{fault_at, fault_of, in_update};
 
-use resh_filter::FilterFault;
-use resh_ops::UpdateFault;
+use resh_chunks::ChunkFault;
+use resh_filter::{FilterFault, FilterFaultKind};
+use resh_ops::{UpdateFault, UpdateFaultKind};
 use resh_setup::SetupFault;
-use resh_value::{NoMemory, ValueFault, Words, path_to_name, path_to_place};
+use resh_value::{NoMemory, ValueFault, ValueFaultKind, WalkFault, Words};
 use std::alloc::Global;
 
-/// The path to the place itself.
-pub(crate) fn no_path(alloc: Global) -> Words
-    ensures { result ≡ [] }
-{
-    Words::from_string(String::new(alloc))
+/// What makes a JSON value no part of a setup.
+#[derive(Debug, Drop)]
+pub(crate) enum FaultKind {
+    Missing,
+    WrongKind,
+    UnknownName,
+    OverLimit {
+        limit: u64,
+    },
+    NoId,
+    SameId {
+        row: u64,
+    },
+    Value(ValueFaultKind),
+    Filter(FilterFaultKind),
+    /// What an update's walk found, and the way to it in the update.
+    Update {
+        inside: Words,
+        found: UpdateFaultKind,
+    },
+    Chunks(ChunkFault),
 }
 
-pub(crate) fn wrong_kind(alloc: Global) -> SetupFault
-    ensures { result ≡ SetupFault.WrongKind [] }
+pub(crate) type Fault = WalkFault<FaultKind>;
+
+pub(crate) fn wrong_kind(alloc: Global) -> Fault
+    ensures { result ≡ WalkFault.At [] FaultKind.WrongKind }
 {
-    SetupFault::WrongKind {
-        path: no_path(alloc),
-    }
+    WalkFault::here(alloc, FaultKind::WrongKind)
 }
 
-pub(crate) fn over_limit(alloc: Global, limit: u64) -> SetupFault
-    ensures { result ≡ SetupFault.OverLimit [] limit }
+pub(crate) fn over_limit(alloc: Global, limit: u64) -> Fault
+    ensures { result ≡ WalkFault.At [] (FaultKind.OverLimit limit) }
 {
-    SetupFault::OverLimit {
-        path: no_path(alloc),
-        limit,
-    }
+    WalkFault::here(alloc, FaultKind::OverLimit { limit })
 }
 
-pub(crate) fn no_id(alloc: Global) -> SetupFault
-    ensures { result ≡ SetupFault.NoId [] }
+pub(crate) fn no_id(alloc: Global) -> Fault
+    ensures { result ≡ WalkFault.At [] FaultKind.NoId }
 {
-    SetupFault::NoId {
-        path: no_path(alloc),
-    }
+    WalkFault::here(alloc, FaultKind::NoId)
 }
 
 /// A name that is of its form, and isn't there.
-pub(crate) fn unknown_here(alloc: Global) -> SetupFault
-    ensures { result ≡ SetupFault.UnknownName [] }
+pub(crate) fn unknown_here(alloc: Global) -> Fault
+    ensures { result ≡ WalkFault.At [] FaultKind.UnknownName }
 {
-    SetupFault::UnknownName {
-        path: no_path(alloc),
-    }
+    WalkFault::here(alloc, FaultKind::UnknownName)
 }
 
-pub(crate) fn missing(alloc: Global, name: &str) -> SetupFault
-    ensures { IsUnlessNoMemory result (SetupFault.Missing (to_name name.now)) }
+pub(crate) fn same_id(alloc: Global, row: u64) -> Fault
+    ensures { result ≡ WalkFault.At [] (FaultKind.SameId row) }
 {
-    match path_to_name(alloc, &no_path(alloc), name) {
-        Ok(path) => SetupFault::Missing { path },
-        Err(NoMemory) => SetupFault::NoMemory,
-    }
+    WalkFault::here(alloc, FaultKind::SameId { row })
 }
 
-pub(crate) fn unknown_name(alloc: Global, name: &str) -> SetupFault
-    ensures { IsUnlessNoMemory result (SetupFault.UnknownName (to_name name.now)) }
+pub(crate) fn chunk_fault(alloc: Global, fault: ChunkFault) -> Fault
+    ensures { result ≡ WalkFault.At [] (FaultKind.Chunks fault) }
 {
-    match path_to_name(alloc, &no_path(alloc), name) {
-        Ok(path) => SetupFault::UnknownName { path },
-        Err(NoMemory) => SetupFault::NoMemory,
-    }
+    WalkFault::here(alloc, FaultKind::Chunks(fault))
 }
 
-/// The fault of an object's member, as it is seen from the object.
-pub(crate) fn under_name(alloc: Global, name: &str, fault: SetupFault) -> SetupFault
-    ensures { IsUnlessNoMemory result (under (to_name name.now) fault) }
+pub(crate) fn missing(alloc: Global, name: &str) -> Fault
+    ensures { result ≢ WalkFault.NoMemory
+        → result ≡ under (to_name name.now) (WalkFault.At [] FaultKind.Missing) }
 {
-    match path_to_name(alloc, &no_path(alloc), name) {
-        Ok(step) => under(alloc, &step, fault),
-        Err(NoMemory) => SetupFault::NoMemory,
-    }
+    WalkFault::here(alloc, FaultKind::Missing).under_name(alloc, name)
 }
 
-/// The fault of an array's item, as it is seen from the array.
-pub(crate) fn under_place(alloc: Global, place: u64, fault: SetupFault) -> SetupFault
-    ensures { IsUnlessNoMemory result (under (to_place place) fault) }
+pub(crate) fn unknown_name(alloc: Global, name: &str) -> Fault
+    ensures { result ≢ WalkFault.NoMemory
+        → result ≡ under (to_name name.now) (WalkFault.At [] FaultKind.UnknownName) }
 {
-    match path_to_place(alloc, &no_path(alloc), place) {
-        Ok(step) => under(alloc, &step, fault),
-        Err(NoMemory) => SetupFault::NoMemory,
-    }
+    WalkFault::here(alloc, FaultKind::UnknownName).under_name(alloc, name)
 }
 
-/// The fault as it is seen from further out, with `step` before its path.
-fn under(alloc: Global, step: &Words, fault: SetupFault) -> SetupFault
-    ensures { IsUnlessNoMemory result (under step.now fault) }
-{
-    match moved(alloc, step, fault) {
-        Ok(fault) => fault,
-        Err(NoMemory) => SetupFault::NoMemory,
-    }
-}
-
-fn moved(alloc: Global, step: &Words, fault: SetupFault) -> Result<SetupFault, NoMemory>
-    ensures { IfOk result (λ f. f ≡ under step.now fault) }
+/// The fault of a value.
+pub(crate) fn in_value(fault: WalkFault<ValueFaultKind>) -> Fault
+    ensures { result ≡ as_kind FaultKind.Value fault }
 {
     match fault {
-        SetupFault::NotJson => Ok(SetupFault::NotJson),
-        SetupFault::Missing { path } => Ok(SetupFault::Missing {
-            path: joined(alloc, step, &path)?,
-        }),
-        SetupFault::WrongKind { path } => Ok(SetupFault::WrongKind {
-            path: joined(alloc, step, &path)?,
-        }),
-        SetupFault::UnknownName { path } => Ok(SetupFault::UnknownName {
-            path: joined(alloc, step, &path)?,
-        }),
-        SetupFault::Value(fault) => Ok(SetupFault::Value(moved_value(alloc, step, fault)?)),
-        SetupFault::Chunks { path, fault } => Ok(SetupFault::Chunks {
-            path: joined(alloc, step, &path)?,
-            fault,
-        }),
-        SetupFault::Update { path, fault } => Ok(SetupFault::Update {
-            path: joined(alloc, step, &path)?,
-            fault: moved_update(alloc, step, fault)?,
-        }),
-        SetupFault::Filter(fault) => Ok(SetupFault::Filter(moved_filter(alloc, step, fault)?)),
-        SetupFault::SameId { row } => Ok(SetupFault::SameId { row }),
-        SetupFault::NoId { path } => Ok(SetupFault::NoId {
-            path: joined(alloc, step, &path)?,
-        }),
-        SetupFault::OverLimit { path, limit } => Ok(SetupFault::OverLimit {
-            path: joined(alloc, step, &path)?,
-            limit,
-        }),
-        SetupFault::NoMemory => Ok(SetupFault::NoMemory),
+        WalkFault::At { path, kind } => WalkFault::At {
+            path,
+            kind: FaultKind::Value(kind),
+        },
+        WalkFault::NoMemory => WalkFault::NoMemory,
     }
 }
 
-fn moved_value(alloc: Global, step: &Words, fault: ValueFault) -> Result<ValueFault, NoMemory>
-    ensures { IfOk result (λ f. f ≡ value_under step.now fault) }
-{
-    match fault.under(alloc, step) {
-        ValueFault::NoMemory => Err(NoMemory),
-        fault => Ok(fault),
-    }
-}
-
-fn moved_filter(alloc: Global, step: &Words, fault: FilterFault) -> Result<FilterFault, NoMemory>
-    ensures { IfOk result (λ f. f ≡ filter_under step.now fault) }
+/// The fault of a filter.
+pub(crate) fn in_filter(fault: WalkFault<FilterFaultKind>) -> Fault
+    ensures { result ≡ as_kind FaultKind.Filter fault }
 {
     match fault {
-        FilterFault::DottedName { path } => Ok(FilterFault::DottedName {
-            path: joined(alloc, step, &path)?,
-        }),
-        FilterFault::Value(fault) => Ok(FilterFault::Value(moved_value(alloc, step, fault)?)),
-        FilterFault::NoMemory => Ok(FilterFault::NoMemory),
+        WalkFault::At { path, kind } => WalkFault::At {
+            path,
+            kind: FaultKind::Filter(kind),
+        },
+        WalkFault::NoMemory => WalkFault::NoMemory,
     }
 }
 
-/// Only the fault of a value has a place in the file; the paths of the others lie in the update.
-fn moved_update(alloc: Global, step: &Words, fault: UpdateFault) -> Result<UpdateFault, NoMemory>
-    ensures { IfOk result (λ f. f ≡ update_under step.now fault) }
+/// The fault of an update.
+pub(crate) fn in_update(alloc: Global, fault: WalkFault<UpdateFaultKind>) -> Fault
+    ensures { result ≡ in_update fault }
 {
     match fault {
-        UpdateFault::Value(fault) => Ok(UpdateFault::Value(moved_value(alloc, step, fault)?)),
-        UpdateFault::UnknownOperator { name } => Ok(UpdateFault::UnknownOperator { name }),
-        UpdateFault::Conflict { path } => Ok(UpdateFault::Conflict { path }),
-        UpdateFault::IdPath => Ok(UpdateFault::IdPath),
-        UpdateFault::BadOperand { path } => Ok(UpdateFault::BadOperand { path }),
-        UpdateFault::NoMemory => Ok(UpdateFault::NoMemory),
+        WalkFault::At { path, kind } => WalkFault::here(
+            alloc,
+            FaultKind::Update {
+                inside: path,
+                found: kind,
+            },
+        ),
+        WalkFault::NoMemory => WalkFault::NoMemory,
     }
+}
+
+/// The fault that is answered.
+pub(crate) fn answered(alloc: Global, fault: Fault) -> SetupFault
+    ensures fault { result ≢ SetupFault.NoMemory → result ≡ fault_of fault }
+    ensures memory { fault ≡ WalkFault.NoMemory → result ≡ SetupFault.NoMemory }
+{
+    match fault {
+        WalkFault::At { path, kind } => match placed(alloc, path, kind) {
+            Ok(fault) => fault,
+            Err(NoMemory) => SetupFault::NoMemory,
+        },
+        WalkFault::NoMemory => SetupFault::NoMemory,
+    }
+}
+
+fn placed(alloc: Global, path: Words, kind: FaultKind) -> Result<SetupFault, NoMemory>
+    ensures { IfOk result (λ fault. fault ≡ fault_at kind path) }
+{
+    match kind {
+        FaultKind::Missing => Ok(SetupFault::Missing { path }),
+        FaultKind::WrongKind => Ok(SetupFault::WrongKind { path }),
+        FaultKind::UnknownName => Ok(SetupFault::UnknownName { path }),
+        FaultKind::OverLimit { limit } => Ok(SetupFault::OverLimit { path, limit }),
+        FaultKind::NoId => Ok(SetupFault::NoId { path }),
+        FaultKind::SameId { row } => Ok(SetupFault::SameId { row }),
+        FaultKind::Value(kind) => Ok(SetupFault::Value(ValueFault::of(WalkFault::At {
+            path,
+            kind,
+        }))),
+        FaultKind::Filter(kind) => {
+            Ok(SetupFault::Filter(FilterFault::of(WalkFault::At { path, kind })))
+        }
+        FaultKind::Update { inside, found } => update_at(alloc, path, &inside, found),
+        FaultKind::Chunks(fault) => Ok(SetupFault::Chunks { path, fault }),
+    }
+}
+
+/// The fault of the update at a path.
+fn update_at(
+    alloc: Global,
+    path: Words,
+    inside: &Words,
+    found: UpdateFaultKind,
+) -> Result<SetupFault, NoMemory>
+    ensures { IfOk result (λ fault. fault ≡ fault_at (FaultKind.Update inside.now found) path) }
+{
+    let place = joined(alloc, &path, inside)?;
+    let fault = UpdateFault::of(WalkFault::At {
+        path: place,
+        kind: found,
+    });
+    Ok(SetupFault::Update { path, fault })
 }
 
 /// Two texts as one.
@@ -180,40 +190,4 @@ fn joined(alloc: Global, first: &Words, rest: &Words) -> Result<Words, NoMemory>
     let mut text = String::from_str(alloc, first.as_str())?;
     text.push_str(rest.as_str())?;
     Ok(Words::from_string(text))
-}
-
-/// The fault of a value.
-pub(crate) fn in_value(fault: ValueFault) -> SetupFault
-    ensures fault { IsUnlessNoMemory result (SetupFault.Value fault) }
-    ensures memory { fault ≡ ValueFault.NoMemory → result ≡ SetupFault.NoMemory }
-{
-    match fault {
-        ValueFault::NoMemory => SetupFault::NoMemory,
-        fault => SetupFault::Value(fault),
-    }
-}
-
-/// The fault of a filter.
-pub(crate) fn in_filter(fault: FilterFault) -> SetupFault
-    ensures fault { IsUnlessNoMemory result (SetupFault.Filter fault) }
-    ensures memory { fault ≡ FilterFault.NoMemory → result ≡ SetupFault.NoMemory }
-{
-    match fault {
-        FilterFault::NoMemory => SetupFault::NoMemory,
-        fault => SetupFault::Filter(fault),
-    }
-}
-
-/// The fault of an update.
-pub(crate) fn in_update(alloc: Global, fault: UpdateFault) -> SetupFault
-    ensures fault { IsUnlessNoMemory result (SetupFault.Update [] fault) }
-    ensures memory { fault ≡ UpdateFault.NoMemory → result ≡ SetupFault.NoMemory }
-{
-    match fault {
-        UpdateFault::NoMemory => SetupFault::NoMemory,
-        fault => SetupFault::Update {
-            path: no_path(alloc),
-            fault,
-        },
-    }
 }

@@ -22,6 +22,7 @@ ghost use Rattle.resh_config.specs.ClusterFile.{IsSetup, IsRefused};
 ghost use Rattle.resh_setup.specs.Validity.{IsValid};
 
 use cluster_file::setup_in;
+use faults::answered;
 use resh_setup::{Setup, SetupFault};
 use serde_json::Value as Json;
 use std::alloc::Global;
@@ -33,7 +34,10 @@ pub fn read_setup(alloc: Global, bytes: &[u8]) -> Result<Setup, SetupFault>
     ensures valid { IfOk result IsValid }
 {
     match Json::from_slice(alloc, bytes) {
-        Ok(json) => setup_in(alloc, &json),
+        Ok(json) => match setup_in(alloc, &json) {
+            Ok(setup) => Ok(setup),
+            Err(fault) => Err(answered(alloc, fault)),
+        },
         Err(error) => {
             if error.is_memory() {
                 return Err(SetupFault::NoMemory);

@@ -4,11 +4,11 @@ ghost use Rattle.std.specs.Prelude.{◌≡◌, List, []};
 ghost use Rattle.serde_json.specs.Data.{Data};
 ghost use Rattle.serde_json.specs.View.{view, items_view};
 ghost use Rattle.resh_value.specs.Outcome.{Gives};
-ghost use Rattle.resh_config.specs.Walk.{Read, count, items_from, list_in, some_of};
+ghost use Rattle.resh_config.specs.Faults.{Read};
+ghost use Rattle.resh_config.specs.Walk.{count, items_from, list_in, some_of};
 
-use crate::faults::{over_limit, under_place, wrong_kind};
-use resh_setup::SetupFault;
-use resh_value::Sequence;
+use crate::faults::{Fault, over_limit, wrong_kind};
+use resh_value::{Sequence, WalkFault};
 use serde_json::Value as Json;
 use std::alloc::Global;
 
@@ -23,8 +23,8 @@ pub(crate) trait ItemReader {
         alloc: Global,
         before: &[Self::Item],
         json: &Json,
-    ) -> Result<Self::Item, SetupFault>
-        ensures item { Gives SetupFault.NoMemory result (reads self.old before.now (view json.now)) }
+    ) -> Result<Self::Item, Fault>
+        ensures item { Gives WalkFault.NoMemory result (reads self.old before.now (view json.now)) }
         ensures same { reads self.new ≡ reads self.old };
 }
 
@@ -34,8 +34,8 @@ pub(crate) fn list_in<R: ItemReader>(
     reader: &mut R,
     limit: u64,
     json: &Json,
-) -> Result<Sequence<R::Item>, SetupFault>
-    ensures { Gives SetupFault.NoMemory result (list_in limit (R.reads reader.old) (view json.now)) }
+) -> Result<Sequence<R::Item>, Fault>
+    ensures { Gives WalkFault.NoMemory result (list_in limit (R.reads reader.old) (view json.now)) }
 {
     match json {
         Json::Array(items) => {
@@ -54,21 +54,21 @@ pub(crate) fn items_of<R: ItemReader>(
     alloc: Global,
     reader: &mut R,
     items: &Vec<Json>,
-) -> Result<Sequence<R::Item>, SetupFault>
-    ensures { Gives SetupFault.NoMemory result (items_from (R.reads reader.old) [] (items_view items.now.items)) }
+) -> Result<Sequence<R::Item>, Fault>
+    ensures { Gives WalkFault.NoMemory result (items_from (R.reads reader.old) [] (items_view items.now.items)) }
 {
     let Ok(mut before) = Vec::with_capacity(alloc, items.len()) else {
-        return Err(SetupFault::NoMemory);
+        return Err(WalkFault::NoMemory);
     };
     let mut rest = items.as_slice();
     while let [item, later @ ..] = rest {
         match reader.read(alloc, before.as_slice(), item) {
             Ok(read) => {
                 if before.push(read).is_err() {
-                    return Err(SetupFault::NoMemory);
+                    return Err(WalkFault::NoMemory);
                 }
             }
-            Err(fault) => return Err(under_place(alloc, before.len() as u64, fault)),
+            Err(fault) => return Err(fault.under_place(alloc, before.len() as u64)),
         }
         rest = later;
     }
@@ -82,7 +82,7 @@ pub(crate) fn count(items: &Vec<Json>) -> u64
 }
 
 /// A list that has to have an item.
-pub(crate) fn some_of<T: Drop>(alloc: Global, items: Sequence<T>) -> Result<Sequence<T>, SetupFault>
+pub(crate) fn some_of<T: Drop>(alloc: Global, items: Sequence<T>) -> Result<Sequence<T>, Fault>
     ensures { result ≡ some_of items }
 {
     if items.is_empty() {

@@ -10,12 +10,11 @@ ghost use Rattle.resh_setup.specs.Names.{is_node_byte, is_node_name, is_field_na
 ghost use Rattle.resh_config.specs.Names.{shard_name_in, shards_in, key_name_in, key_in};
 ghost use Rattle.resh_config.specs.Walk.{accept};
 
-use crate::faults::wrong_kind;
+use crate::faults::{Fault, wrong_kind};
 use crate::lists::{ItemReader, list_in, some_of};
 use crate::walk::{FieldReader, text_in};
 use resh_chunks::KeyPattern;
-use resh_setup::SetupFault;
-use resh_value::{Names, Words};
+use resh_value::{Names, WalkFault, Words};
 use serde_json::Value as Json;
 use std::alloc::Global;
 
@@ -35,7 +34,7 @@ impl FieldReader for Shards {
 
     ghost reads = { λ _. shards_in };
 
-    fn read(self, alloc: Global, json: &Json) -> Result<Names, SetupFault> {
+    fn read(self, alloc: Global, json: &Json) -> Result<Names, Fault> {
         match list_in(alloc, &mut ShardName, MOST_SHARDS, json) {
             Ok(names) => some_of(alloc, names),
             Err(fault) => Err(fault),
@@ -51,7 +50,7 @@ impl ItemReader for ShardName {
 
     ghost reads = { λ _. shard_name_in };
 
-    fn read(&mut self, alloc: Global, before: &[Words], json: &Json) -> Result<Words, SetupFault> {
+    fn read(&mut self, alloc: Global, before: &[Words], json: &Json) -> Result<Words, Fault> {
         match text_in(alloc, json) {
             Ok(name) => accept(alloc, is_shard_name(before, name), name),
             Err(fault) => Err(fault),
@@ -69,7 +68,7 @@ impl FieldReader for Key {
 
     ghost reads = { λ _. key_in };
 
-    fn read(self, alloc: Global, json: &Json) -> Result<KeyPattern, SetupFault> {
+    fn read(self, alloc: Global, json: &Json) -> Result<KeyPattern, Fault> {
         match key_names(alloc, json) {
             Ok(names) => Ok(pattern_of(names)),
             Err(fault) => Err(fault),
@@ -87,8 +86,8 @@ fn pattern_of(names: Names) -> KeyPattern
     }
 }
 
-fn key_names(alloc: Global, json: &Json) -> Result<Names, SetupFault>
-    ensures { Gives SetupFault.NoMemory result (key_in (view json.now)) }
+fn key_names(alloc: Global, json: &Json) -> Result<Names, Fault>
+    ensures { Gives WalkFault.NoMemory result (key_in (view json.now)) }
 {
     match list_in(alloc, &mut KeyName, MOST_KEY_NAMES, json) {
         Ok(names) => some_of(alloc, names),
@@ -104,7 +103,7 @@ impl ItemReader for KeyName {
 
     ghost reads = { λ _. key_name_in };
 
-    fn read(&mut self, alloc: Global, before: &[Words], json: &Json) -> Result<Words, SetupFault> {
+    fn read(&mut self, alloc: Global, before: &[Words], json: &Json) -> Result<Words, Fault> {
         match text_in(alloc, json) {
             Ok(name) => accept(alloc, is_key_name(before, name), name),
             Err(fault) => Err(fault),
@@ -112,8 +111,8 @@ impl ItemReader for KeyName {
     }
 }
 
-pub(crate) fn accept(alloc: Global, good: bool, name: &str) -> Result<Words, SetupFault>
-    ensures { Gives SetupFault.NoMemory result (accept good name.now) }
+pub(crate) fn accept(alloc: Global, good: bool, name: &str) -> Result<Words, Fault>
+    ensures { Gives WalkFault.NoMemory result (accept good name.now) }
 {
     if good {
         Ok(Words::of(alloc, name)?)

@@ -3,16 +3,16 @@
 ghost use Rattle.std.specs.Prelude.{◌≡◌, ◌∷◌, map};
 ghost use Rattle.serde_json.specs.View.{view, members_view};
 ghost use Rattle.resh_value.specs.Outcome.{Gives};
-ghost use Rattle.resh_config.specs.Plan.{recipient_named, who_of, coordinator_of, who_with, who_in, commit_fate, delivery_fate, fate_named, fate_in, kind_name, kind_of, has_both_kinds, numbers_of, planned_of, planned_in, plan_in};
+ghost use Rattle.resh_config.specs.Plan.{recipient_named, link_who, lane_who, who_after, who_of, coordinator_of, who_with, who_in, commit_fate, delivery_fate, fate_named, fate_in, kind_name, kind_of, has_both_kinds, numbers_of, planned_of, planned_in, plan_in};
 
-use crate::faults::{unknown_here, wrong_kind};
+use crate::faults::{Fault, unknown_here, wrong_kind};
 use crate::lists::{ItemReader, list_in};
 use crate::names::is_same;
 use crate::walk::{FieldReader, NumberIn, member, optional, required, row_with, text_in};
 use crate::words::{Known, words_of};
 use resh_luck::{Kind, PlanFate, PlanRow};
-use resh_setup::{Plan, Planned, SetupFault, Who};
-use resh_value::ShardId;
+use resh_setup::{Plan, Planned, Who};
+use resh_value::{ShardId, WalkFault};
 use serde_json::{Map, Value as Json};
 use std::alloc::{AllocError, Global};
 
@@ -32,7 +32,7 @@ impl FieldReader for PlanRows<'_> {
 
     ghost reads = { λ p. plan_in p.known.now.shards.now p.known.now.lanes };
 
-    fn read(self, alloc: Global, json: &Json) -> Result<Plan, SetupFault> {
+    fn read(self, alloc: Global, json: &Json) -> Result<Plan, Fault> {
         list_in(alloc, &mut RowReader { known: self.known }, MOST_ROWS, json)
     }
 }
@@ -47,12 +47,7 @@ impl ItemReader for RowReader<'_> {
 
     ghost reads = { λ r. planned_in r.known.now.shards.now r.known.now.lanes };
 
-    fn read(
-        &mut self,
-        alloc: Global,
-        _before: &[Planned],
-        json: &Json,
-    ) -> Result<Planned, SetupFault> {
+    fn read(&mut self, alloc: Global, _before: &[Planned], json: &Json) -> Result<Planned, Fault> {
         let members = row_with(
             alloc,
             json,
@@ -71,12 +66,8 @@ fn has_both_kinds(members: &Map<String, Json>) -> bool
     member(members, "commit").is_some() && member(members, "deliver").is_some()
 }
 
-fn planned_of(
-    alloc: Global,
-    known: &Known,
-    members: &Map<String, Json>,
-) -> Result<Planned, SetupFault>
-    ensures { Gives SetupFault.NoMemory result
+fn planned_of(alloc: Global, known: &Known, members: &Map<String, Json>) -> Result<Planned, Fault>
+    ensures { Gives WalkFault.NoMemory result
         (planned_of known.now.shards.now known.now.lanes (members_view members.now.entries)) }
 {
     let who = required(alloc, members, "who", WhoReader { known })?;
@@ -109,8 +100,8 @@ fn numbers_of(
     who: Who,
     kind: Kind,
     members: &Map<String, Json>,
-) -> Result<Planned, SetupFault>
-    ensures { Gives SetupFault.NoMemory result (numbers_of who kind (members_view members.now.entries)) }
+) -> Result<Planned, Fault>
+    ensures { Gives WalkFault.NoMemory result (numbers_of who kind (members_view members.now.entries)) }
 {
     let numbers = NumberIn {
         low: 1,
@@ -143,18 +134,18 @@ impl FieldReader for WhoReader<'_> {
 
     ghost reads = { λ w. who_in w.known.now.shards.now w.known.now.lanes };
 
-    fn read(self, alloc: Global, json: &Json) -> Result<Who, SetupFault> {
+    fn read(self, alloc: Global, json: &Json) -> Result<Who, Fault> {
         match text_in(alloc, json) {
             Ok(text) => match words_of(alloc, text) {
                 Ok(words) => who_with(alloc, self.known, words.as_slice()),
-                Err(AllocError) => Err(SetupFault::NoMemory),
+                Err(AllocError) => Err(WalkFault::NoMemory),
             },
             Err(fault) => Err(fault),
         }
     }
 }
 
-fn who_with(alloc: Global, known: &Known, words: &[&str]) -> Result<Who, SetupFault>
+fn who_with(alloc: Global, known: &Known, words: &[&str]) -> Result<Who, Fault>
     ensures { result ≡ who_with known.now.shards.now known.now.lanes (map (λ w. w.now) words.now) }
 {
     match words {
@@ -169,7 +160,7 @@ fn who_with(alloc: Global, known: &Known, words: &[&str]) -> Result<Who, SetupFa
     }
 }
 
-fn coordinator_of(alloc: Global, words: &[&str]) -> Result<Who, SetupFault>
+fn coordinator_of(alloc: Global, words: &[&str]) -> Result<Who, Fault>
     ensures { result ≡ coordinator_of (map (λ w. w.now) words.now) }
 {
     if words.is_empty() {
@@ -180,7 +171,7 @@ fn coordinator_of(alloc: Global, words: &[&str]) -> Result<Who, SetupFault>
 }
 
 /// An empty first word names nothing.
-fn recipient_named(alloc: Global, known: &Known, name: &str) -> Result<ShardId, SetupFault>
+fn recipient_named(alloc: Global, known: &Known, name: &str) -> Result<ShardId, Fault>
     ensures { result ≡ recipient_named known.now.shards.now name.now }
 {
     if name.is_empty() {
@@ -190,30 +181,60 @@ fn recipient_named(alloc: Global, known: &Known, name: &str) -> Result<ShardId, 
 }
 
 /// The link or the lane of a recipient, by the words after it.
-fn who_of(
-    alloc: Global,
-    known: &Known,
-    recipient: ShardId,
-    words: &[&str],
-) -> Result<Who, SetupFault>
+fn who_of(alloc: Global, known: &Known, recipient: ShardId, words: &[&str]) -> Result<Who, Fault>
     ensures { result ≡ who_of known.now.shards.now known.now.lanes recipient (map (λ w. w.now) words.now) }
 {
     match words {
-        [donor] => {
-            let donor = known.shard(alloc, donor)?;
-            Ok(Who::Link { recipient, donor })
-        }
-        [donor, lane] => {
-            let donor = known.shard(alloc, donor)?;
-            let lane = known.lane(alloc, lane)?;
-            Ok(Who::Lane {
-                recipient,
-                donor,
-                lane,
-            })
-        }
-        _ => Err(wrong_kind(alloc)),
+        [donor, rest @ ..] => who_after(alloc, known, recipient, donor, rest),
+        [] => Err(wrong_kind(alloc)),
     }
+}
+
+fn who_after(
+    alloc: Global,
+    known: &Known,
+    recipient: ShardId,
+    donor: &str,
+    words: &[&str],
+) -> Result<Who, Fault>
+    ensures { result ≡ who_after known.now.shards.now known.now.lanes recipient donor.now
+        (map (λ w. w.now) words.now) }
+{
+    match words {
+        [lane, rest @ ..] => {
+            if rest.is_empty() {
+                lane_who(alloc, known, recipient, donor, lane)
+            } else {
+                Err(wrong_kind(alloc))
+            }
+        }
+        [] => link_who(alloc, known, recipient, donor),
+    }
+}
+
+fn link_who(alloc: Global, known: &Known, recipient: ShardId, donor: &str) -> Result<Who, Fault>
+    ensures { result ≡ link_who known.now.shards.now known.now.lanes recipient donor.now }
+{
+    let donor = known.shard(alloc, donor)?;
+    Ok(Who::Link { recipient, donor })
+}
+
+fn lane_who(
+    alloc: Global,
+    known: &Known,
+    recipient: ShardId,
+    donor: &str,
+    lane: &str,
+) -> Result<Who, Fault>
+    ensures { result ≡ lane_who known.now.shards.now known.now.lanes recipient donor.now lane.now }
+{
+    let donor = known.shard(alloc, donor)?;
+    let lane = known.lane(alloc, lane)?;
+    Ok(Who::Lane {
+        recipient,
+        donor,
+        lane,
+    })
 }
 
 /// Reads a fate of a kind.
@@ -227,7 +248,7 @@ impl FieldReader for FateReader {
 
     ghost reads = { λ f. fate_in f.kind };
 
-    fn read(self, alloc: Global, json: &Json) -> Result<PlanFate, SetupFault> {
+    fn read(self, alloc: Global, json: &Json) -> Result<PlanFate, Fault> {
         match text_in(alloc, json) {
             Ok(name) => match self.kind {
                 Kind::Commit => commit_fate(alloc, name),
@@ -238,7 +259,7 @@ impl FieldReader for FateReader {
     }
 }
 
-fn commit_fate(alloc: Global, name: &str) -> Result<PlanFate, SetupFault>
+fn commit_fate(alloc: Global, name: &str) -> Result<PlanFate, Fault>
     ensures { result ≡ commit_fate name.now }
 {
     if is_same(name, "crashedBefore") {
@@ -253,7 +274,7 @@ fn commit_fate(alloc: Global, name: &str) -> Result<PlanFate, SetupFault>
     Err(wrong_kind(alloc))
 }
 
-fn delivery_fate(alloc: Global, name: &str) -> Result<PlanFate, SetupFault>
+fn delivery_fate(alloc: Global, name: &str) -> Result<PlanFate, Fault>
     ensures { result ≡ delivery_fate name.now }
 {
     if is_same(name, "lost") {

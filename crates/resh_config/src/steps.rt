@@ -4,13 +4,13 @@ ghost use Rattle.std.specs.Prelude.{◌≡◌, map, Some};
 ghost use Rattle.resh_value.specs.Outcome.{Gives};
 ghost use Rattle.resh_config.specs.Steps.{alone, client_of, shard_of, retold_of, link_of, lane_of, piece_with, piece_of, step_with, step_of, step_in, steps_in};
 
-use crate::faults::{unknown_here, wrong_kind};
+use crate::faults::{Fault, unknown_here, wrong_kind};
 use crate::lists::{ItemReader, list_in};
 use crate::step_word::{StepWord, step_word};
 use crate::walk::{FieldReader, text_in};
 use crate::words::{Known, LaneName, words_of};
-use resh_setup::{Event, Events, MessageKind, SetupFault};
-use resh_value::ShardId;
+use resh_setup::{Event, Events, MessageKind};
+use resh_value::{ShardId, WalkFault};
 use serde_json::Value as Json;
 use std::alloc::{AllocError, Global};
 
@@ -28,7 +28,7 @@ impl FieldReader for Steps<'_> {
 
     ghost reads = { λ s. steps_in s.known.now.shards.now s.known.now.clients.now s.known.now.lanes };
 
-    fn read(self, alloc: Global, json: &Json) -> Result<Events, SetupFault> {
+    fn read(self, alloc: Global, json: &Json) -> Result<Events, Fault> {
         list_in(
             alloc,
             &mut StepReader { known: self.known },
@@ -48,18 +48,18 @@ impl ItemReader for StepReader<'_> {
 
     ghost reads = { λ s. step_in s.known.now.shards.now s.known.now.clients.now s.known.now.lanes };
 
-    fn read(&mut self, alloc: Global, _before: &[Event], json: &Json) -> Result<Event, SetupFault> {
+    fn read(&mut self, alloc: Global, _before: &[Event], json: &Json) -> Result<Event, Fault> {
         match text_in(alloc, json) {
             Ok(text) => match words_of(alloc, text) {
                 Ok(words) => step_of(alloc, self.known, words.as_slice()),
-                Err(AllocError) => Err(SetupFault::NoMemory),
+                Err(AllocError) => Err(WalkFault::NoMemory),
             },
             Err(fault) => Err(fault),
         }
     }
 }
 
-fn step_of(alloc: Global, known: &Known, words: &[&str]) -> Result<Event, SetupFault>
+fn step_of(alloc: Global, known: &Known, words: &[&str]) -> Result<Event, Fault>
     ensures { result ≡ step_of known.now.shards.now known.now.clients.now known.now.lanes
         (map (λ w. w.now) words.now) }
 {
@@ -72,12 +72,7 @@ fn step_of(alloc: Global, known: &Known, words: &[&str]) -> Result<Event, SetupF
     }
 }
 
-fn step_with(
-    alloc: Global,
-    known: &Known,
-    word: StepWord,
-    words: &[&str],
-) -> Result<Event, SetupFault>
+fn step_with(alloc: Global, known: &Known, word: StepWord, words: &[&str]) -> Result<Event, Fault>
     ensures { result ≡ step_with known.now.shards.now known.now.clients.now known.now.lanes (Some word)
         (map (λ w. w.now) words.now) }
 {
@@ -109,7 +104,7 @@ fn step_with(
     }
 }
 
-fn applied(alloc: Global, known: &Known, words: &[&str]) -> Result<Event, SetupFault>
+fn applied(alloc: Global, known: &Known, words: &[&str]) -> Result<Event, Fault>
     ensures { result ≡ step_with known.now.shards.now known.now.clients.now known.now.lanes
         (Some StepWord.Apply) (map (λ w. w.now) words.now) }
 {
@@ -121,7 +116,7 @@ fn applied(alloc: Global, known: &Known, words: &[&str]) -> Result<Event, SetupF
     })
 }
 
-fn applied_again(alloc: Global, known: &Known, words: &[&str]) -> Result<Event, SetupFault>
+fn applied_again(alloc: Global, known: &Known, words: &[&str]) -> Result<Event, Fault>
     ensures { result ≡ step_with known.now.shards.now known.now.clients.now known.now.lanes
         (Some StepWord.Again) (map (λ w. w.now) words.now) }
 {
@@ -135,7 +130,7 @@ fn applied_again(alloc: Global, known: &Known, words: &[&str]) -> Result<Event, 
 }
 
 /// An event whose step is one word.
-fn alone(alloc: Global, event: Event, words: &[&str]) -> Result<Event, SetupFault>
+fn alone(alloc: Global, event: Event, words: &[&str]) -> Result<Event, Fault>
     ensures { result ≡ alone event (map (λ w. w.now) words.now) }
 {
     if words.is_empty() {
@@ -145,7 +140,7 @@ fn alone(alloc: Global, event: Event, words: &[&str]) -> Result<Event, SetupFaul
     }
 }
 
-fn client_of(alloc: Global, known: &Known, words: &[&str]) -> Result<u32, SetupFault>
+fn client_of(alloc: Global, known: &Known, words: &[&str]) -> Result<u32, Fault>
     ensures { result ≡ client_of known.now.clients.now (map (λ w. w.now) words.now) }
 {
     match words {
@@ -154,7 +149,7 @@ fn client_of(alloc: Global, known: &Known, words: &[&str]) -> Result<u32, SetupF
     }
 }
 
-fn shard_of(alloc: Global, known: &Known, words: &[&str]) -> Result<ShardId, SetupFault>
+fn shard_of(alloc: Global, known: &Known, words: &[&str]) -> Result<ShardId, Fault>
     ensures { result ≡ shard_of known.now.shards.now (map (λ w. w.now) words.now) }
 {
     match words {
@@ -163,11 +158,7 @@ fn shard_of(alloc: Global, known: &Known, words: &[&str]) -> Result<ShardId, Set
     }
 }
 
-fn retold_of(
-    alloc: Global,
-    known: &Known,
-    words: &[&str],
-) -> Result<(ShardId, MessageKind), SetupFault>
+fn retold_of(alloc: Global, known: &Known, words: &[&str]) -> Result<(ShardId, MessageKind), Fault>
     ensures { result ≡ retold_of known.now.shards.now (map (λ w. w.now) words.now) }
 {
     match words {
@@ -176,7 +167,7 @@ fn retold_of(
     }
 }
 
-fn link_of(alloc: Global, known: &Known, words: &[&str]) -> Result<(ShardId, ShardId), SetupFault>
+fn link_of(alloc: Global, known: &Known, words: &[&str]) -> Result<(ShardId, ShardId), Fault>
     ensures { result ≡ link_of known.now.shards.now (map (λ w. w.now) words.now) }
 {
     match words {
@@ -185,7 +176,7 @@ fn link_of(alloc: Global, known: &Known, words: &[&str]) -> Result<(ShardId, Sha
     }
 }
 
-fn lane_of(alloc: Global, known: &Known, words: &[&str]) -> Result<LaneName, SetupFault>
+fn lane_of(alloc: Global, known: &Known, words: &[&str]) -> Result<LaneName, Fault>
     ensures { result ≡ lane_of known.now.shards.now known.now.lanes (map (λ w. w.now) words.now) }
 {
     match words {
@@ -194,7 +185,7 @@ fn lane_of(alloc: Global, known: &Known, words: &[&str]) -> Result<LaneName, Set
     }
 }
 
-fn piece_of(alloc: Global, known: &Known, words: &[&str]) -> Result<(LaneName, u32), SetupFault>
+fn piece_of(alloc: Global, known: &Known, words: &[&str]) -> Result<(LaneName, u32), Fault>
     ensures { result ≡ piece_of known.now.shards.now known.now.lanes (map (λ w. w.now) words.now) }
 {
     match words {
@@ -212,7 +203,7 @@ fn piece_with(
     donor: &str,
     lane: &str,
     words: &[&str],
-) -> Result<(LaneName, u32), SetupFault>
+) -> Result<(LaneName, u32), Fault>
     ensures { result ≡ piece_with known.now.shards.now known.now.lanes recipient.now donor.now lane.now
         (map (λ w. w.now) words.now) }
 {

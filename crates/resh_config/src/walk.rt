@@ -8,10 +8,12 @@ ghost use Rattle.serde_json.specs.View.{view, number_view, members_view};
 ghost use Rattle.resh_value.specs.Names.{same_name};
 ghost use Rattle.resh_value.specs.Outcome.{Gives};
 ghost use Rattle.resh_value.specs.Paths.{to_name};
-ghost use Rattle.resh_config.specs.Walk.{Read, GivesSeen, at_step, unlisted, row_with, field, field_or, number_in, number_within, text_in};
+ghost use Rattle.resh_value.specs.Walk.{at_step};
+ghost use Rattle.resh_config.specs.Faults.{Read};
+ghost use Rattle.resh_config.specs.Walk.{GivesSeen, unlisted, row_with, field, field_or, number_in, number_within, text_in};
 
-use crate::faults::{missing, over_limit, under_name, unknown_name, wrong_kind};
-use resh_setup::SetupFault;
+use crate::faults::{Fault, missing, over_limit, unknown_name, wrong_kind};
+use resh_value::WalkFault;
 use serde_json::{Map, Number, Value as Json};
 use std::alloc::Global;
 
@@ -21,8 +23,8 @@ pub(crate) trait FieldReader: Drop + Sized {
 
     ghost reads: { Self → Data → Read Self.Content };
 
-    fn read(self, alloc: Global, json: &Json) -> Result<Self::Content, SetupFault>
-        ensures { Gives SetupFault.NoMemory result (reads self (view json.now)) };
+    fn read(self, alloc: Global, json: &Json) -> Result<Self::Content, Fault>
+        ensures { Gives WalkFault.NoMemory result (reads self (view json.now)) };
 }
 
 /// The members of an object that has no names but these.
@@ -30,7 +32,7 @@ pub(crate) fn row_with<'a>(
     alloc: Global,
     json: &'a Json,
     names: &[&str],
-) -> Result<&'a Map<String, Json>, SetupFault>
+) -> Result<&'a Map<String, Json>, Fault>
     ensures { GivesSeen (λ m. members_view m.now.entries) result
         (row_with (map (λ n. n.now) names.now) (view json.now)) }
 {
@@ -70,8 +72,8 @@ pub(crate) fn required<R: FieldReader>(
     members: &Map<String, Json>,
     name: &str,
     reader: R,
-) -> Result<R::Content, SetupFault>
-    ensures { Gives SetupFault.NoMemory result (field (members_view members.now.entries) name.now (R.reads reader)) }
+) -> Result<R::Content, Fault>
+    ensures { Gives WalkFault.NoMemory result (field (members_view members.now.entries) name.now (R.reads reader)) }
 {
     match member(members, name) {
         None => Err(missing(alloc, name)),
@@ -86,8 +88,8 @@ pub(crate) fn optional<R: FieldReader>(
     name: &str,
     reader: R,
     default: R::Content,
-) -> Result<R::Content, SetupFault>
-    ensures { Gives SetupFault.NoMemory result
+) -> Result<R::Content, Fault>
+    ensures { Gives WalkFault.NoMemory result
         (field_or default (members_view members.now.entries) name.now (R.reads reader)) }
 {
     match member(members, name) {
@@ -107,12 +109,12 @@ fn read_under<R: FieldReader>(
     name: &str,
     json: &Json,
     reader: R,
-) -> Result<R::Content, SetupFault>
-    ensures { Gives SetupFault.NoMemory result (at_step (to_name name.now) (R.reads reader (view json.now))) }
+) -> Result<R::Content, Fault>
+    ensures { Gives WalkFault.NoMemory result (at_step (to_name name.now) (R.reads reader (view json.now))) }
 {
     match reader.read(alloc, json) {
         Ok(content) => Ok(content),
-        Err(fault) => Err(under_name(alloc, name, fault)),
+        Err(fault) => Err(fault.under_name(alloc, name)),
     }
 }
 
@@ -128,7 +130,7 @@ impl FieldReader for NumberIn {
 
     ghost reads = { λ n. number_in n.low n.high };
 
-    fn read(self, alloc: Global, json: &Json) -> Result<u32, SetupFault> {
+    fn read(self, alloc: Global, json: &Json) -> Result<u32, Fault> {
         match json {
             Json::Number(number) => number_within(alloc, self.low, self.high, number),
             _ => Err(wrong_kind(alloc)),
@@ -136,7 +138,7 @@ impl FieldReader for NumberIn {
     }
 }
 
-fn number_within(alloc: Global, low: u32, high: u32, number: &Number) -> Result<u32, SetupFault>
+fn number_within(alloc: Global, low: u32, high: u32, number: &Number) -> Result<u32, Fault>
     ensures { result ≡ number_within low high (number_view number.now) }
 {
     match number.as_u64() {
@@ -158,7 +160,7 @@ fn number_within(alloc: Global, low: u32, high: u32, number: &Number) -> Result<
     }
 }
 
-pub(crate) fn text_in<'a>(alloc: Global, json: &'a Json) -> Result<&'a str, SetupFault>
+pub(crate) fn text_in<'a>(alloc: Global, json: &'a Json) -> Result<&'a str, Fault>
     ensures { GivesSeen (λ t. t.now) result (text_in (view json.now)) }
 {
     match json {

@@ -10,9 +10,9 @@ ghost use Rattle.resh_setup.specs.Validity.{is_called};
 ghost use Rattle.resh_config.specs.Names.{shard_named};
 ghost use Rattle.resh_config.specs.Steps.{words_of, is_number, number_named, message_named, client_named, lane_named, link_named, retold_named, link_lane_named, piece_named};
 
-use crate::faults::{unknown_here, wrong_kind};
+use crate::faults::{Fault, unknown_here, wrong_kind};
 use crate::names::{is_node_name, is_same};
-use resh_setup::{Client, Clients, MessageKind, SetupFault};
+use resh_setup::{Client, Clients, MessageKind};
 use resh_value::{Names, ShardId, Words};
 use std::alloc::{AllocError, Global};
 
@@ -26,11 +26,7 @@ pub(crate) fn words_of(alloc: Global, text: &str) -> Result<Vec<&str>, AllocErro
     text.split(' ').collect(alloc)
 }
 
-pub(crate) fn shard_named(
-    alloc: Global,
-    name: &str,
-    shards: &[Words],
-) -> Result<ShardId, SetupFault>
+pub(crate) fn shard_named(alloc: Global, name: &str, shards: &[Words]) -> Result<ShardId, Fault>
     requires { length shards.now ≤ 8 }
     ensures { result ≡ shard_named shards.now name.now }
 {
@@ -49,7 +45,7 @@ fn place_of(name: &str, names: &[Words]) -> Option<usize>
     names.iter().position(|other| is_same(name, other.as_str()))
 }
 
-fn client_named(alloc: Global, name: &str, clients: &[Client]) -> Result<u32, SetupFault>
+fn client_named(alloc: Global, name: &str, clients: &[Client]) -> Result<u32, Fault>
     requires { length clients.now ≤ 16 }
     ensures { result ≡ client_named clients.now name.now }
 {
@@ -71,7 +67,7 @@ fn client_place(name: &str, clients: &[Client]) -> Option<usize>
 }
 
 /// The message of a name.
-fn message_named(alloc: Global, name: &str) -> Result<MessageKind, SetupFault>
+fn message_named(alloc: Global, name: &str) -> Result<MessageKind, Fault>
     ensures { result ≡ message_named name.now }
 {
     if is_same(name, "prepare") {
@@ -93,7 +89,7 @@ fn message_named(alloc: Global, name: &str) -> Result<MessageKind, SetupFault>
 }
 
 /// A decimal number without a leading zero but in `0`.
-pub(crate) fn number_named(alloc: Global, text: &str) -> Result<u32, SetupFault>
+pub(crate) fn number_named(alloc: Global, text: &str) -> Result<u32, Fault>
     ensures { result ≡ number_named text.now }
 {
     if is_number(text) {
@@ -143,20 +139,20 @@ pub(crate) struct Known<'a> {
 }
 
 impl Known<'_> {
-    pub(crate) fn shard(&self, alloc: Global, name: &str) -> Result<ShardId, SetupFault>
+    pub(crate) fn shard(&self, alloc: Global, name: &str) -> Result<ShardId, Fault>
         ensures { result ≡ shard_named self.now.shards.now name.now }
     {
         shard_named(alloc, name, self.shards.as_slice())
     }
 
-    pub(crate) fn client(&self, alloc: Global, name: &str) -> Result<u32, SetupFault>
+    pub(crate) fn client(&self, alloc: Global, name: &str) -> Result<u32, Fault>
         ensures { result ≡ client_named self.now.clients.now name.now }
     {
         client_named(alloc, name, self.clients.as_slice())
     }
 
     /// A lane is a number below so many.
-    pub(crate) fn lane(&self, alloc: Global, text: &str) -> Result<u32, SetupFault>
+    pub(crate) fn lane(&self, alloc: Global, text: &str) -> Result<u32, Fault>
         ensures { result ≡ lane_named self.now.lanes text.now }
     {
         let lane = number_named(alloc, text)?;
@@ -173,7 +169,7 @@ impl Known<'_> {
         alloc: Global,
         recipient: &str,
         donor: &str,
-    ) -> Result<(ShardId, ShardId), SetupFault>
+    ) -> Result<(ShardId, ShardId), Fault>
         ensures { result ≡ link_named self.now.shards.now recipient.now donor.now }
     {
         let recipient = self.shard(alloc, recipient)?;
@@ -187,7 +183,7 @@ impl Known<'_> {
         alloc: Global,
         shard: &str,
         message: &str,
-    ) -> Result<(ShardId, MessageKind), SetupFault>
+    ) -> Result<(ShardId, MessageKind), Fault>
         ensures { result ≡ retold_named self.now.shards.now shard.now message.now }
     {
         let shard = self.shard(alloc, shard)?;
@@ -202,7 +198,7 @@ impl Known<'_> {
         recipient: &str,
         donor: &str,
         lane: &str,
-    ) -> Result<LaneName, SetupFault>
+    ) -> Result<LaneName, Fault>
         ensures { result ≡ link_lane_named self.now.shards.now self.now.lanes recipient.now donor.now lane.now }
     {
         let link = self.link(alloc, recipient, donor)?;
@@ -218,7 +214,7 @@ impl Known<'_> {
         donor: &str,
         lane: &str,
         position: &str,
-    ) -> Result<(LaneName, u32), SetupFault>
+    ) -> Result<(LaneName, u32), Fault>
         ensures { result ≡ piece_named self.now.shards.now self.now.lanes
             recipient.now donor.now lane.now position.now }
     {

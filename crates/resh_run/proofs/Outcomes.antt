@@ -4,6 +4,8 @@ use Rattle.std.specs.declared.option.Option.{Option}
 use Rattle.serde_json.specs.Data.{Data}
 use Rattle.resh_setup.specs.declared.setup.Setup.{Setup}
 use Rattle.resh_setup.specs.declared.fault.SetupFault.{SetupFault}
+use Rattle.resh_value.specs.Outcome.{in_err}
+use Rattle.resh_config.specs.Faults.{fault_of}
 use Rattle.resh_config.specs.ClusterFile.{IsOutcome, read, no_reading, IsSetup, IsRefused, setup_in}
 use Rattle.resh_io.specs.Reading.{GivesAll}
 
@@ -11,7 +13,7 @@ pub one_outcome : (bytes : List ℕ) (r s : Result Setup SetupFault) → IsOutco
 one_outcome bytes r s (read d is e) (read d' is' e') =
     let same : Some d ≡ Some d' = sym is.1 ∙ is'.1 in
     let same_data : d ≡ d' = cc in
-    sym e ∙ ap setup_in same_data ∙ e'
+    sym e ∙ ap (λ x. in_err fault_of (setup_in x)) same_data ∙ e'
 one_outcome bytes r s (read d is e) (no_reading none e') = let clash : Some d ≡ None = sym is.1 ∙ none is.0 in cc
 one_outcome bytes r s (no_reading none e) (read d is e') = let clash : Some d ≡ None = sym is.1 ∙ none is.0 in cc
 one_outcome bytes r s (no_reading none e) (no_reading none' e') = e ∙ sym e'
