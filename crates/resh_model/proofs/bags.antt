@@ -5,4 +5,5 @@ pub mod Opened
 pub mod Opening
 pub mod Reopened
 pub mod SortedEntries
+pub mod ValidSetups
 pub mod WholeHeld

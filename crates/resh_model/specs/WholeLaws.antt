@@ -12,6 +12,7 @@ use Rattle.resh_shard.specs.declared.command.Command.TheVariants.{Insert, Update
 use Rattle.resh_coord.specs.declared.cause.End.{End}
 use Rattle.resh_setup.specs.declared.setup.Setup.{Setup}
 use Rattle.resh_setup.specs.declared.turn.Turn.{Turn}
+use Rattle.resh_setup.specs.Validity.{IsValid}
 use Rattle.resh_model.specs.Answer.{replaces, bag_after, doing}
 use Rattle.resh_model.specs.Bag.{Bag, Document, held, opening_bag}
 use Rattle.resh_model.specs.Orders.{State, commands_of, opening, turned, walked, last_state, Allows, AllowsAll}
@@ -34,6 +35,10 @@ pub record IsWholeSetup (setup : Setup) : Type 0 where
   pub documents : AllByRecursion IsWhole setup.documents
   pub commands : (client number : ℕ) (command : Command)
       → slice_get (commands_of (slice_get setup.clients client)) number ≡ Some command → BringsWhole command
+
+-- so a valid setup is
+abbrev pub ValidIsWhole : Type 0
+ValidIsWhole = (setup : Setup) → IsValid setup → IsWholeSetup setup
 
 pub record StaysWhole : Type 0 where
   pub opens : (map : Chunks) (ds : List Document) → AllByRecursion IsWhole ds → HoldsWhole (opening_bag map ds)

@@ -4,7 +4,7 @@ ghost use Rattle.resh_model.specs.Findings.{DoingsFind};
 ghost use Rattle.resh_model.specs.Laws.{KeepsAll, NoClashInPlace, OpensPlaced, OpensWhole, PartsRise, PutsOne, RemovesOne, SameByPlace};
 ghost use Rattle.resh_model.specs.MarkLaws.{CommitsElse, EndsHaveCauses, OneMarkWithoutClients};
 ghost use Rattle.resh_model.specs.PartLaws.{AnsweredByTargets, ClashesByRecipient, LeavesOtherParts, MovesByHalves, PartsMerge, ReadsByShard};
-ghost use Rattle.resh_model.specs.WholeLaws.{GrowsByTurns, StaysWhole, UpdateKeepsId};
+ghost use Rattle.resh_model.specs.WholeLaws.{GrowsByTurns, StaysWhole, UpdateKeepsId, ValidIsWhole};
 ghost use Rattle.resh_model.specs.OrderLaws.{AnswersEachOnce, AnswersOne, AsksEachOnce, DropLeaves, DropsAtOnce, DropsOnlyThere, HasOneEnd, HasOneMark, HasTurnForEach, HoldingsKeepAll, HoldingsRise, RefusedLeave, RepliesLeaveBag, RunsAreLawful, StaysPlaced, SwitchKeeps};
 
 /// A bag is what stands at its places, and puts and removals act place by place.
@@ -120,6 +120,7 @@ pub fn clashes_by_recipient()
 pub fn documents_stay_whole()
     ensures whole { StaysWhole }
     ensures ids { UpdateKeepsId }
+    ensures valid { ValidIsWhole }
 {}
 
 /// An order that was lawful so far grows by each turn that may come.
