@@ -9,3 +9,7 @@ mod config_cases;
 mod config_faults;
 #[cfg(test)]
 mod config_setups;
+#[cfg(test)]
+mod replays;
+#[cfg(test)]
+mod run;

@@ -3,10 +3,6 @@
 
 mod decision;
 mod plain;
-#[cfg(test)]
-mod replay_tests;
-#[cfg(test)]
-mod tests;
 mod texts;
 mod words;
 

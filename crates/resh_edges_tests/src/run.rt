@@ -1,7 +1,7 @@
 //! The top call over memory ends: pages, refusals, and faults of either end.
 
-use crate::plain_main;
 use resh_io::{MemorySink, MemorySource};
+use resh_run::plain_main;
 use resh_value::NoMemory;
 use std::alloc::Global;
 use std::test::Fail;
