@@ -19,7 +19,7 @@ use Rattle.resh_value.specs.declared.value.Value.TheVariants.{Null, Int, Text, D
 use Rattle.resh_value.specs.declared.fault.ValueFaultKind.{ValueFaultKind}
 use Rattle.resh_value.specs.declared.fault.ValueFaultKind.TheVariants.{NotWhole, TooDeep, DollarName}
 use Rattle.resh_value.specs.declared.walk_fault.WalkFault.{WalkFault}
-use Rattle.resh_value.proofs.DepthLemmas.{levels-Doc}
+use Rattle.resh_value.proofs.levels.Levels.{levels-Doc}
 use Rattle.resh_filter.specs.declared.fault.FilterFaultKind.TheVariants.{Value as InValue}
 use Rattle.resh_filter.specs.Filters.{is_dotted, first_dotted, dotted_in, undotted, walked_filter}
 use Rattle.resh_config.proofs.Outcomes.{Ok-and_then, Ok-in_err, same_in_Ok}
