@@ -2,6 +2,7 @@ use resh_coord::{Asked, Cause, Coordinator, End, Node, Phase, Why, coordinator_l
 use resh_progress::Message;
 use resh_value::{Copied, ShardId, Value, Words};
 use std::alloc::Global;
+use std::process::Abort;
 use std::test::Fail;
 
 #[test]
@@ -63,7 +64,7 @@ fn report(coordinator: &mut Coordinator, shard: ShardId, clash: Option<Value>) -
 }
 
 // All were told that writes are blocked.
-fn blocking(rt: &HostRuntime, alloc: Global) -> Result<Coordinator, Fail> {
+fn blocking(rt: &impl Abort, alloc: Global) -> Result<Coordinator, Fail> {
     let mut coordinator = Coordinator::new(alloc, 2)?;
     assert!(rt; coordinator.begin() && !coordinator.begin());
     assert_eq!(rt; coordinator.advance(6), None);
