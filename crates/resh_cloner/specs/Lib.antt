@@ -1,0 +1,2 @@
+pub mod Cloning
+pub mod Laws
