@@ -9,8 +9,8 @@ use Rattle.resh_ops.specs.Reading.{walked_update}
 use Rattle.resh_ops.specs.Updates.{IsUpdate}
 use Rattle.resh_ops.specs.declared.operator.Action.{Action}
 use Rattle.resh_ops.proofs.ReadPaths.{update_has_paths}
-use Rattle.resh_shard.specs.declared.command.Command.{Command}
-use Rattle.resh_shard.specs.declared.command.Command.TheVariants.{Insert, Update, Delete, Find, Count, Abort}
+use Rattle.resh_command.specs.declared.command.Command.{Command}
+use Rattle.resh_command.specs.declared.command.Command.TheVariants.{Insert, Update, Delete, Find, Count, Abort}
 use Rattle.resh_setup.specs.Documents.{Document, IsFilter, IsCommand, inserts, updates, deletes, finds, counts, aborts}
 use Rattle.resh_setup.specs.Names.{each_after}
 use Rattle.resh_setup.specs.Validity.{AreClients, command_count, is_new_name, is_named_apart}

@@ -7,8 +7,8 @@ use Rattle.resh_value.specs.Outcome.{in_err}
 use Rattle.resh_filter.specs.Filters.{walked_filter}
 use Rattle.resh_ops.specs.Reading.{walked_update}
 use Rattle.resh_ops.specs.declared.operator.Action.{Action}
-use Rattle.resh_shard.specs.declared.command.Command.{Command}
-use Rattle.resh_shard.specs.declared.command.Command.TheVariants.{Insert, Update, Delete, Find, Count, Abort}
+use Rattle.resh_command.specs.declared.command.Command.{Command}
+use Rattle.resh_command.specs.declared.command.Command.TheVariants.{Insert, Update, Delete, Find, Count, Abort}
 use Rattle.resh_setup.specs.Documents.{Document}
 use Rattle.resh_setup.specs.Validity.{command_count, is_new_name}
 use Rattle.resh_setup.specs.declared.client.Client.{Client}

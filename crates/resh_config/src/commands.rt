@@ -18,7 +18,7 @@ use crate::walk::{FieldReader, member, required, unlisted};
 use resh_filter::Filter;
 use resh_ops::Update;
 use resh_setup::Client;
-use resh_shard::{Command, Commands};
+use resh_command::{Command, Commands};
 use resh_value::WalkFault;
 use serde_json::{Map, Value as Json};
 use std::alloc::Global;

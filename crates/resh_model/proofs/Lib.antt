@@ -3,4 +3,3 @@ pub mod bags
 pub mod orders
 pub mod placing
 pub mod shards
-pub mod Lists

@@ -1,4 +1,2 @@
-pub mod Doings
-pub mod Finding
 pub mod Hitting
 pub mod Showing

@@ -1,6 +1,7 @@
 pub mod Aborts
 pub mod Deciding
 pub mod Finishing
+pub mod Growing
 pub mod Lawful
 pub mod MarkCauses
 pub mod Marking

@@ -1,8 +1,1 @@
-pub mod ByRecipient
-pub mod ByShard
 pub mod Holding
-pub mod Locality
-pub mod Merged
-pub mod Owners
-pub mod Parting
-pub mod Partition

@@ -1,5 +1,5 @@
 -- What the code's doings mean.
-use Rattle.resh_model.specs.Answer as answer
+use Rattle.resh_bag.specs.Answer as answer
 use Rattle.resh_model.specs.declared.answer.Doing.{Doing}
 use Rattle.resh_model.specs.declared.answer.Doing.TheVariants.{Adds, Replaces, Removes, Says}
 

@@ -3,7 +3,7 @@ use Rattle.std.specs.Prelude.{◌≡◌, ℕ, ◌<◌, ◌≤◌, T, List, lengt
 use Rattle.std.specs.FinMap.{from_sorted, is_sorted}
 use Rattle.resh_value.specs.declared.value.Value.{Value}
 use Rattle.resh_value.specs.Lookup.{id_of}
-use Rattle.resh_model.specs.Bag.{Bag, Document, place_cmp, held, put, without}
+use Rattle.resh_bag.specs.Bag.{Bag, Document, place_cmp, held, put, without}
 use Rattle.resh_model.specs.declared.collection.Entry.{Entry}
 
 abbrev pub keyed : Entry → (Value × ℕ) × Document

@@ -5,8 +5,8 @@ use Rattle.resh_coord.specs.declared.cause.End.{End}
 use Rattle.resh_coord.specs.declared.cause.End.TheVariants.{Committed, Aborted}
 use Rattle.resh_setup.specs.declared.setup.Setup.{Setup}
 use Rattle.resh_setup.specs.declared.turn.Turn.{Turn}
-use Rattle.resh_model.specs.Bag.{Bag}
-use Rattle.resh_model.specs.Placement.{HasNoClash, IsFirstClash}
+use Rattle.resh_bag.specs.Bag.{Bag}
+use Rattle.resh_bag.specs.Placement.{HasNoClash, IsFirstClash}
 use Rattle.resh_model.specs.Orders.{last_state, IsLawful}
 use Rattle.resh_model.specs.OrderLaws.{is_mark, AcceptsAbort, EndsAccepting}
 use Rattle.resh_model.specs.Runs.{IsMarked}

@@ -9,8 +9,8 @@ use Rattle.resh_coord.specs.declared.cause.End.TheVariants.{Committed, Aborted}
 use Rattle.resh_setup.specs.declared.setup.Setup.{Setup}
 use Rattle.resh_setup.specs.declared.turn.Turn.{Turn}
 use Rattle.resh_setup.specs.declared.turn.Turn.TheVariants.{Switch, Drop}
-use Rattle.resh_model.specs.Bag.{Bag, Document, opening_bag}
-use Rattle.resh_model.specs.Placement.{parts, HasNoClash, IsFirstClash}
+use Rattle.resh_bag.specs.Bag.{Bag, Document, opening_bag}
+use Rattle.resh_bag.specs.Placement.{parts, HasNoClash, IsFirstClash}
 
 abbrev pub bag_of : Setup → Bag
 bag_of setup = opening_bag setup.old_map setup.documents

@@ -8,17 +8,17 @@ use Rattle.resh_coord.specs.declared.cause.Cause.{Cause}
 use Rattle.resh_coord.specs.declared.cause.Cause.TheVariants.{Asked}
 use Rattle.resh_coord.specs.declared.cause.End.{End}
 use Rattle.resh_coord.specs.declared.cause.End.TheVariants.{Committed, Aborted}
-use Rattle.resh_shard.specs.declared.command.Command.{Command}
-use Rattle.resh_shard.specs.declared.reply.Reply.{Reply}
-use Rattle.resh_shard.specs.declared.reply.Reply.TheVariants.{Inserted, Duplicate, Matched, NotFound, Deleted, Found, Counted, NoKey, Refused, AbortAccepted, AbortTooLate, NoMemory}
+use Rattle.resh_command.specs.declared.command.Command.{Command}
+use Rattle.resh_command.specs.declared.reply.Reply.{Reply}
+use Rattle.resh_command.specs.declared.reply.Reply.TheVariants.{Inserted, Duplicate, Matched, NotFound, Deleted, Found, Counted, NoKey, Refused, AbortAccepted, AbortTooLate, NoMemory}
 use Rattle.resh_setup.specs.declared.setup.Setup.{Setup}
 use Rattle.resh_setup.specs.declared.turn.Turn.{Turn}
 use Rattle.resh_setup.specs.declared.turn.Turn.TheVariants as turn
 use Rattle.resh_value.specs.Lookup.{id_of}
-use Rattle.resh_model.specs.Bag.{Bag, Document, documents, IsPlaced}
-use Rattle.resh_model.specs.Placement.{parts, all_of, HasNoClash}
+use Rattle.resh_bag.specs.Bag.{Bag, Document, documents, IsPlaced}
+use Rattle.resh_bag.specs.Placement.{parts, all_of, HasNoClash}
 use Rattle.resh_model.specs.Marks.{bag_of, IsRun}
-use Rattle.resh_model.specs.Answer.{doing, bag_after, reply_of}
+use Rattle.resh_bag.specs.Answer.{doing, bag_after, reply_of}
 use Rattle.resh_model.specs.Orders.{State, opening, replies_to, commands_of, next_command, turned, last_state, holdings_of, HasNext, IsLawful}
 
 -- an order has one end

@@ -5,17 +5,17 @@ use Rattle.resh_coord.specs.declared.cause.Cause.{Cause}
 use Rattle.resh_coord.specs.declared.cause.Cause.TheVariants.{Clash, Asked, Failed, NoMemory}
 use Rattle.resh_coord.specs.declared.cause.End.{End}
 use Rattle.resh_coord.specs.declared.cause.End.TheVariants.{Committed, Aborted}
-use Rattle.resh_shard.specs.declared.command.Command.{Command}
-use Rattle.resh_shard.specs.declared.command.Command.TheVariants.{Insert, Update, Delete, Find, Count, Abort}
-use Rattle.resh_shard.specs.declared.reply.Reply.{Reply}
-use Rattle.resh_shard.specs.declared.reply.Reply.TheVariants as reply
+use Rattle.resh_command.specs.declared.command.Command.{Command}
+use Rattle.resh_command.specs.declared.command.Command.TheVariants.{Insert, Update, Delete, Find, Count, Abort}
+use Rattle.resh_command.specs.declared.reply.Reply.{Reply}
+use Rattle.resh_command.specs.declared.reply.Reply.TheVariants as reply
 use Rattle.resh_setup.specs.declared.client.Client.{Client}
 use Rattle.resh_setup.specs.declared.setup.Setup.{Setup}
 use Rattle.resh_setup.specs.declared.turn.Turn.{Turn}
 use Rattle.resh_setup.specs.declared.turn.Turn.TheVariants as turn
-use Rattle.resh_model.specs.Bag.{Bag, Document, documents, opening_bag}
-use Rattle.resh_model.specs.Placement.{parts, HasNoClash, IsFirstClash}
-use Rattle.resh_model.specs.Answer.{Doing, doing, bag_after, reply_of}
+use Rattle.resh_bag.specs.Bag.{Bag, Document, documents, opening_bag}
+use Rattle.resh_bag.specs.Placement.{parts, HasNoClash, IsFirstClash}
+use Rattle.resh_bag.specs.Answer.{Doing, doing, bag_after, reply_of}
 
 -- what has been decided: nothing yet, that an abort was accepted whose drop comes next, or the end
 pub data Fate : Type 0 where

@@ -8,7 +8,7 @@ use Rattle.resh_setup.specs.declared.turn.Turn.{Turn}
 use Rattle.resh_setup.specs.declared.turn.Turn.TheVariants.{Switch, Drop}
 use Rattle.resh_report.specs.Lines.{names_of}
 use Rattle.resh_report.specs.Page.{page_text}
-use Rattle.resh_model.specs.Placement.{HasNoClash, IsFirstClash}
+use Rattle.resh_bag.specs.Placement.{HasNoClash, IsFirstClash}
 use Rattle.resh_model.specs.Marks.{bag_of, clash_at}
 use Rattle.resh_model.specs.Orders.{last_state, holdings_of, IsLawful}
 

@@ -9,8 +9,8 @@ use Rattle.resh_value.specs.OrderLaws.{compare_total}
 use Rattle.resh_value.specs.declared.value.Value.{Value}
 use Rattle.resh_chunks.specs.Chunks.{Chunks, owner_of}
 use Rattle.resh_value.specs.Lookup.{id_of}
-use Rattle.resh_model.specs.Bag.{Document}
-use Rattle.resh_model.specs.Placement.{clash_cmp}
+use Rattle.resh_bag.specs.Bag.{Document}
+use Rattle.resh_bag.specs.Placement.{clash_cmp}
 use Rattle.resh_model.specs.declared.seat.Seat.{Seat}
 
 -- where a document goes, and under which `_id`

@@ -1,22 +1,22 @@
 //! What a command does to the collection, and what it is answered.
 
 ghost use Rattle.std.specs.Prelude.{◌≡◌, ◌≢◌, ◌≤◌, Ok, Err, [], ◌∷◌, ◌++◌, length, take, filter, map, IfOk, IfErr, OnOk, OnErr};
-ghost use Rattle.std.specs.List.{list_all};
-ghost use Rattle.std.specs.Option.{option_copied, is_some};
-ghost use Rattle.resh_value.specs.Lookup.{field_of, id_of};
+ghost use Rattle.std.specs.Option.{option_copied};
+ghost use Rattle.resh_value.specs.Lookup.{id_of};
 ghost use Rattle.resh_chunks.specs.Chunks.{owner_of};
 ghost use Rattle.resh_filter.specs.Filters.{matches};
 ghost use Rattle.resh_ops.specs.Updates.{updated};
-ghost use Rattle.resh_model.specs.Bag.{documents, held};
-ghost use Rattle.resh_model.specs.Answer.{bag_after, doing, has_key, hit, insert_doing, matching_all, on_hit, removes, reply_of, result_doing, text_limit, with_key};
+ghost use Rattle.resh_bag.specs.Bag.{documents, held};
+ghost use Rattle.resh_bag.specs.Answer.{bag_after, doing, hit, insert_doing, matching_all, on_hit, removes, reply_of, result_doing, text_limit, with_key};
 ghost use Rattle.resh_model.specs.Doings.{meant};
 
 use crate::collection::{Collection, Entry};
+use resh_bag::has_key;
 use resh_chunks::ChunkMap;
+use resh_command::{Command, Reply};
 use resh_filter::Filter;
 use resh_ops::{ChangeFault, Update};
-use resh_shard::{Command, Reply};
-use resh_value::{Document, Documents, NoMemory, Sequence, ShardId, TEXT_LIMIT, Value, Words};
+use resh_value::{Document, Documents, NoMemory, Sequence, ShardId, TEXT_LIMIT, Value};
 use std::alloc::Global;
 
 /// So many documents are shown of those that match.
@@ -166,20 +166,6 @@ fn change(
             change_one(map, collection, shard, document, update)
         }
     }
-}
-
-/// Whether the filter has `_id` and each field of the shard key.
-fn has_key(map: &ChunkMap, filter: &Filter) -> bool
-    ensures { result ≡ has_key map.now filter.now }
-{
-    let fields = filter.fields();
-    fields.get_by("_id").is_some() && has_names(fields, map.pattern().names().as_slice())
-}
-
-fn has_names(fields: &Document, names: &[Words]) -> bool
-    ensures { result ≡ list_all (λ name. is_some (field_of fields.now name)) names.now }
-{
-    names.iter().all(|name| fields.get(name).is_some())
 }
 
 /// The document of the filter's `_id` on the shard of its key, where it matches.

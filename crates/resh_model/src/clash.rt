@@ -2,8 +2,8 @@
 
 ghost use Rattle.std.specs.Prelude.{◌≡◌, IfOk, MatchOption};
 ghost use Rattle.resh_value.specs.Lookup.{id_of};
-ghost use Rattle.resh_model.specs.Bag.{IsPlaced};
-ghost use Rattle.resh_model.specs.Placement.{HasNoClash, IsFirstClash};
+ghost use Rattle.resh_bag.specs.Bag.{IsPlaced};
+ghost use Rattle.resh_bag.specs.Placement.{HasNoClash, IsFirstClash};
 
 use crate::collection::Collection;
 use crate::seat::{Seat, first_tie, seats_of};

@@ -4,7 +4,7 @@ ghost use Rattle.std.specs.Prelude.{◌≡◌, ◌+◌, ◌<◌, ◌≤◌, leng
 ghost use Rattle.std.specs.FinMap.{empty};
 ghost use Rattle.std.specs.Option.{option_copied};
 ghost use Rattle.resh_value.specs.Lookup.{id_of};
-ghost use Rattle.resh_model.specs.Bag.{place_cmp, held, put, without, documents, opening_bag};
+ghost use Rattle.resh_bag.specs.Bag.{place_cmp, held, put, without, documents, opening_bag};
 ghost use Rattle.resh_model.specs.Entries.{IsInOrder, gathered, StandsAt, GoesTo};
 
 use resh_chunks::ChunkMap;
@@ -30,7 +30,7 @@ impl Model for Collection {
     ghost use Rattle.std.specs.Coded.{coded_list, coded×, coded_ℕ};
     ghost use Rattle.std.specs.FinMap.{code};
     ghost use Rattle.resh_value.specs.contracts.value.Value as value;
-    ghost use Rattle.resh_model.specs.Bag.{Bag};
+    ghost use Rattle.resh_bag.specs.Bag.{Bag};
     ghost use Rattle.resh_model.specs.Entries.{IsInOrder, gathered};
 
     ghost Value = { Bag };

@@ -3,7 +3,7 @@
 ghost use Rattle.std.specs.Prelude.{◌≡◌, None, Some, [], ◌∷◌, IfOk};
 ghost use Rattle.std.specs.List.Sorted.{IsSorted};
 ghost use Rattle.resh_value.specs.Lookup.{id_of};
-ghost use Rattle.resh_model.specs.Bag.{HasDistinctPlaces, opening_bag};
+ghost use Rattle.resh_bag.specs.Bag.{HasDistinctPlaces, opening_bag};
 ghost use Rattle.resh_model.specs.Marks.{IsRun, clash_at};
 
 use crate::seat::{Seat, first_tie, hand_out, seats_back, seats_of};

@@ -5,7 +5,7 @@ ghost use Rattle.std.specs.Bool.{Decides};
 ghost use Rattle.resh_chunks.specs.Chunks.{owner_of};
 ghost use Rattle.resh_coord.specs.declared.cause.End.{End as WhichEnd};
 ghost use Rattle.resh_model.specs.Orders.{holdings_of, last_state, next_command, opening, AllowsAll, IsFinished, IsLawful};
-ghost use Rattle.resh_model.specs.Placement.{parts};
+ghost use Rattle.resh_bag.specs.Placement.{parts};
 ghost use Rattle.resh_model.specs.Runs.{page_of};
 ghost use Rattle.resh_model.specs.States.{told};
 ghost use Rattle.resh_report.specs.Lines.{names_of};

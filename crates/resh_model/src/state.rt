@@ -3,17 +3,17 @@
 ghost use Rattle.std.specs.Prelude.{◌≡◌, [], ◌∷◌, ◌++◌, length, map, slice_index_or, slice_set, IfOk, OnOk};
 ghost use Rattle.std.specs.Bool.{Decides};
 ghost use Rattle.std.specs.Option.{option_copied};
-ghost use Rattle.resh_model.specs.Bag.{IsPlaced};
+ghost use Rattle.resh_bag.specs.Bag.{IsPlaced};
 ghost use Rattle.resh_model.specs.Orders.{undecided, asked, abort_asked, answered, next_command, opening, replied, replies_to, served, switched, turned, Allows, AllowsDrop, IsFree};
-ghost use Rattle.resh_model.specs.Placement.{HasNoClash, IsFirstClash};
+ghost use Rattle.resh_bag.specs.Placement.{HasNoClash, IsFirstClash};
 ghost use Rattle.resh_model.specs.States.{fate_of, is_at, told};
 
 use crate::clash::{Clash, first_clash};
 use crate::collection::Collection;
 use resh_chunks::ChunkMap;
+use resh_command::{Command, Replies, Reply};
 use resh_coord::{Cause, End};
 use resh_setup::{Client, Setup, Turn};
-use resh_shard::{Command, Replies, Reply};
 use resh_value::{NoMemory, Sequence, ShardId, Value, compare};
 use std::alloc::Global;
 

@@ -3,7 +3,7 @@ use Rattle.std.specs.Prelude.{ℕ, ◌+◌, Bool, true, false, ◌==◌, List, [
 use Rattle.resh_value.specs.Text.{document_text}
 use Rattle.resh_value.specs.declared.value.Value.{Value}
 use Rattle.resh_coord.specs.declared.cause.End.{End}
-use Rattle.resh_shard.specs.declared.reply.Reply.{Reply}
+use Rattle.resh_command.specs.declared.reply.Reply.{Reply}
 use Rattle.resh_setup.specs.declared.turn.Turn.{Turn}
 use Rattle.resh_setup.specs.declared.turn.Turn.TheVariants.{Command, Switch, Drop}
 use Rattle.resh_report.specs.Lines.{line, name_at}

@@ -4,8 +4,8 @@ use Rattle.resh_value.specs.Text.{document_text}
 use Rattle.resh_value.specs.declared.value.Value.{Value}
 use Rattle.resh_ops.specs.declared.faults.ChangeFault.{ChangeFault}
 use Rattle.resh_ops.specs.declared.faults.ChangeFault.TheVariants as change
-use Rattle.resh_shard.specs.declared.reply.Reply.{Reply}
-use Rattle.resh_shard.specs.declared.reply.Reply.TheVariants.{Inserted, Duplicate, Matched, NotFound, Deleted, Found, Counted, NoKey, Refused, AbortAccepted, AbortTooLate, NoMemory}
+use Rattle.resh_command.specs.declared.reply.Reply.{Reply}
+use Rattle.resh_command.specs.declared.reply.Reply.TheVariants.{Inserted, Duplicate, Matched, NotFound, Deleted, Found, Counted, NoKey, Refused, AbortAccepted, AbortTooLate, NoMemory}
 use Rattle.resh_report.specs.Lines.{line, name_at}
 use Rattle.resh_report.specs.Refusals.{at_path}
 

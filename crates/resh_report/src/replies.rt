@@ -8,7 +8,7 @@ use crate::refusals::append_at_path;
 use crate::text::{append, append_client_name, append_line, append_line_feed, append_number};
 use resh_ops::ChangeFault;
 use resh_setup::Client;
-use resh_shard::{Replies, Reply};
+use resh_command::{Replies, Reply};
 use resh_value::{Document, NoMemory};
 
 /// Writes each client's name and its replies.

@@ -7,7 +7,7 @@ use Rattle.resh_setup.specs.declared.client.Client.{Client}
 use Rattle.resh_setup.specs.declared.setup.Setup.{Setup}
 use Rattle.resh_setup.specs.declared.turn.Turn.{Turn}
 use Rattle.resh_report.specs.Page.{page_text}
-use Rattle.resh_model.specs.Bag.{Document}
+use Rattle.resh_bag.specs.Bag.{Document}
 use Rattle.resh_model.specs.Marks.{bag_of, IsRun}
 use Rattle.resh_report.specs.Lines.{names_of}
 use Rattle.resh_model.proofs.orders.OneMark.{one_lawful, one_page, one_well}

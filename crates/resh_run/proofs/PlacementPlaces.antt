@@ -11,8 +11,8 @@ use Rattle.std.specs.declared.cmp.Ordering.TheVariants.{Less, Equal, Greater}
 use Rattle.resh_value.specs.Order.{compare_of}
 use Rattle.resh_chunks.specs.Chunks.{Chunks, owner_of}
 use Rattle.resh_value.specs.Lookup.{id_of}
-use Rattle.resh_model.specs.Bag.{Document, place_cmp, place_of, HasDistinctPlaces}
-use Rattle.resh_model.specs.PlaceOrder.{place_total}
+use Rattle.resh_bag.specs.Bag.{Document, place_cmp, place_of, HasDistinctPlaces}
+use Rattle.resh_bag.specs.PlaceOrder.{place_total}
 use Rattle.resh_setup.specs.Documents.{first_same, same_place}
 
 equal_numbers : (m n : ℕ) → is_eq (nat_cmp m n) ≡ eqb m n

@@ -7,7 +7,7 @@ use Rattle.resh_coord.specs.declared.cause.End.TheVariants.{Aborted}
 use Rattle.resh_coord.specs.declared.cause.Cause.TheVariants.{NoMemory}
 use Rattle.resh_setup.specs.declared.setup.Setup.{Setup}
 use Rattle.resh_setup.specs.declared.fault.SetupFault.{SetupFault}
-use Rattle.resh_model.specs.Placement.{HasNoClash}
+use Rattle.resh_bag.specs.Placement.{HasNoClash}
 use Rattle.resh_model.specs.Licence.{LicensesNone, crash_steps}
 use Rattle.resh_model.specs.MarkLaws.{bag_at_mark, is_failure, AcceptsNone}
 use Rattle.resh_model.specs.Runs.{IsMarked}

@@ -14,8 +14,8 @@ use Rattle.resh_chunks.specs.Chunks.{Chunks, owner_of}
 use Rattle.resh_filter.specs.Filters.{is_dotted}
 use Rattle.resh_ops.specs.Updates.{IsUpdate}
 use Rattle.resh_ops.specs.declared.operator.Action.{Action}
-use Rattle.resh_shard.specs.declared.command.Command.{Command}
-use Rattle.resh_shard.specs.declared.command.Command.TheVariants.{Insert, Update, Delete, Find, Count, Abort}
+use Rattle.resh_command.specs.declared.command.Command.{Command}
+use Rattle.resh_command.specs.declared.command.Command.TheVariants.{Insert, Update, Delete, Find, Count, Abort}
 
 abbrev pub Document : Type 0
 Document = List (List ℕ × Value)

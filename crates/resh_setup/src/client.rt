@@ -1,6 +1,6 @@
 ghost use Rattle.std.specs.Prelude.{◌≡◌, IfOk};
 
-use resh_shard::{Commands, Replies};
+use resh_command::{Commands, Replies};
 use resh_value::{Copied, NoMemory, Sequence, Words};
 use std::alloc::Global;
 

@@ -2,10 +2,10 @@
 use Rattle.std.proofs.Common.{◌≡◌, ℕ, true, false, cond, Option, Some, None, sym, ap, ◌∙◌}
 use Rattle.resh_chunks.specs.Chunks.{Chunks, owner_of}
 use Rattle.resh_filter.specs.Filters.{matches}
-use Rattle.resh_shard.specs.declared.reply.Reply.TheVariants.{NoKey}
+use Rattle.resh_command.specs.declared.reply.Reply.TheVariants.{NoKey}
 use Rattle.resh_value.specs.Lookup.{id_of}
-use Rattle.resh_model.specs.Bag.{Bag, Document, held}
-use Rattle.resh_model.specs.Answer.{Doing, says, has_key, hit, matching, on_hit, with_key}
+use Rattle.resh_bag.specs.Bag.{Bag, Document, held}
+use Rattle.resh_bag.specs.Answer.{Doing, says, has_key, hit, matching, on_hit, with_key}
 
 module _ (chunks : Chunks) (bag : Bag) (filter : Document) where
   -- the document under the filter's `_id` doesn't match

@@ -12,11 +12,11 @@ use Rattle.std.specs.Ordering.{eq_by_cmp}
 use Rattle.std.specs.declared.cmp.Ordering.TheVariants.{Less, Equal, Greater}
 use Rattle.resh_value.specs.declared.value.Value.{Value}
 use Rattle.resh_value.specs.Lookup.{id_of}
-use Rattle.resh_model.specs.Bag.{Bag, Document, place_cmp, held, put, without, documents}
+use Rattle.resh_bag.specs.Bag.{Bag, Document, place_cmp, held, put, without, documents}
 use Rattle.resh_model.specs.Entries.{keyed, IsInOrder, gathered, StandsAt, GoesTo}
-use Rattle.resh_model.specs.PlaceOrder.{place_total, place_same}
+use Rattle.resh_bag.specs.PlaceOrder.{place_total, place_same}
 use Rattle.resh_model.specs.declared.collection.Entry.{Entry}
-use Rattle.resh_model.proofs.bags.Entries.{keys_rise}
+use Rattle.resh_bag.proofs.bags.Entries.{keys_rise}
 use Rattle.resh_model.proofs.bags.SortedEntries.{without_key, Found, Missed, IsBetween, found_at, missed_between, between_below, between_above}
 
 abbrev Pairs : Type 0

@@ -5,7 +5,7 @@ use Rattle.std.proofs.Math.Seq.{drop-cons}
 use Rattle.std.proofs.lemmas.List.{drop_all}
 use Rattle.std.specs.FinMap.{empty}
 use Rattle.resh_chunks.specs.Chunks.{Chunks, owner_of}
-use Rattle.resh_model.specs.Bag.{Bag, Document, place_cmp, put, opening_bag}
+use Rattle.resh_bag.specs.Bag.{Bag, Document, place_cmp, put, opening_bag}
 
 module _ (chunks : Chunks) (ds : List Document) where
   -- behind the last document the bag is empty

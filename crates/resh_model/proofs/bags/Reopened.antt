@@ -4,11 +4,11 @@ use Rattle.std.proofs.lemmas.Map.Keys.{IsDistinct-from_sorted}
 use Rattle.resh_value.specs.declared.value.Value.{Value}
 use Rattle.resh_chunks.specs.Chunks.{Chunks, owner_of}
 use Rattle.resh_value.specs.Lookup.{id_of}
-use Rattle.resh_model.specs.Bag.{Bag, Document, place_cmp, place_of, held, documents, opening_bag, HasDistinctPlaces, IsPlaced}
-use Rattle.resh_model.proofs.bags.BagLaws.{same_by_place}
-use Rattle.resh_model.proofs.Lists.{rising_map}
-use Rattle.resh_model.proofs.bags.Opening.{opens_placed, opens_whole}
-use Rattle.resh_model.proofs.shards.Parting.{held_document, document_held, documents_rise}
+use Rattle.resh_bag.specs.Bag.{Bag, Document, place_cmp, place_of, held, documents, opening_bag, HasDistinctPlaces, IsPlaced}
+use Rattle.resh_bag.proofs.bags.BagLaws.{same_by_place}
+use Rattle.resh_bag.proofs.Lists.{rising_map}
+use Rattle.resh_bag.proofs.bags.Opening.{opens_placed, opens_whole}
+use Rattle.resh_bag.proofs.shards.Parting.{held_document, document_held, documents_rise}
 
 module _ (chunks : Chunks) (bag : Bag) (placed : IsPlaced chunks bag) where
   pub own_places : HasDistinctPlaces chunks (documents bag)

@@ -2,14 +2,15 @@
 use Rattle.std.proofs.Common.{◌≡◌, ℕ, zero, suc, List, [], ◌∷◌, Option, Some, None, refl, sym, ap, subst, ◌∙◌}
 use Rattle.std.specs.List.{AllByRecursion, slice_get}
 use Rattle.resh_value.specs.Whole.{IsWhole}
-use Rattle.resh_shard.specs.declared.command.Command.{Command}
+use Rattle.resh_command.specs.declared.command.Command.{Command}
 use Rattle.resh_setup.specs.declared.client.Client.{Client}
 use Rattle.resh_setup.specs.declared.setup.Setup.{Setup}
 use Rattle.resh_setup.specs.Documents.{IsStored, IsCommand}
 use Rattle.resh_setup.specs.Validity.{IsValid}
-use Rattle.resh_model.specs.Bag.{Document}
+use Rattle.resh_bag.specs.Bag.{Document}
 use Rattle.resh_model.specs.Orders.{commands_of}
-use Rattle.resh_model.specs.WholeLaws.{BringsWhole, IsWholeSetup, ValidIsWhole}
+use Rattle.resh_bag.specs.WholeLaws.{BringsWhole}
+use Rattle.resh_model.specs.WholeLaws.{IsWholeSetup, ValidIsWhole}
 
 some_same : {X : Type 0} (x y : X) → Some x ≡ Some y → x ≡ y
 some_same x y e = cc

@@ -4,17 +4,17 @@ use Rattle.std.proofs.lemmas.List.{get_or-set_same, length_push, same_from_push}
 use Rattle.resh_coord.specs.declared.cause.Cause.{Cause}
 use Rattle.resh_coord.specs.declared.cause.Cause.TheVariants.{Clash, Asked, Failed, NoMemory}
 use Rattle.resh_coord.specs.declared.cause.End.{End}
-use Rattle.resh_shard.specs.declared.command.Command.{Command}
-use Rattle.resh_shard.specs.declared.reply.Reply.TheVariants.{AbortAccepted}
+use Rattle.resh_command.specs.declared.command.Command.{Command}
+use Rattle.resh_command.specs.declared.reply.Reply.TheVariants.{AbortAccepted}
 use Rattle.resh_setup.specs.declared.setup.Setup.{Setup}
 use Rattle.resh_setup.specs.declared.turn.Turn.{Turn}
 use Rattle.resh_setup.specs.declared.turn.Turn.TheVariants as turn
 use Rattle.resh_chunks.specs.Chunks.{Chunks}
-use Rattle.resh_model.specs.Bag.{Bag}
-use Rattle.resh_model.specs.Answer.{doing, reply_of}
+use Rattle.resh_bag.specs.Bag.{Bag}
+use Rattle.resh_bag.specs.Answer.{doing, reply_of}
 use Rattle.resh_model.specs.Orders.{asked, ended, State, opening, replies_to, next_command, served, turned, walked, last_state, IsFree, Allows, AllowsDrop, AllowsAll}
 use Rattle.resh_model.specs.OrderLaws.{AcceptsAbort, drop_of, EndsAccepting, DropsAtOnce, DropsOnlyThere}
-use Rattle.resh_model.proofs.answers.Doings.{each_doing}
+use Rattle.resh_bag.proofs.answers.Doings.{each_doing}
 use Rattle.resh_model.proofs.orders.Served.{has_row}
 use Rattle.resh_model.proofs.orders.Turns.{each_served, HasRows, last_rows, walked-append, allowed_behind, allowed_front}
 

@@ -9,8 +9,8 @@ use Rattle.resh_value.specs.Order.{compare_of}
 use Rattle.resh_value.specs.OrderLaws.{compare_itself, compare_same}
 use Rattle.resh_value.specs.declared.value.Value.{Value}
 use Rattle.resh_chunks.specs.Chunks.{Chunks}
-use Rattle.resh_model.specs.Bag.{Bag}
-use Rattle.resh_model.specs.Placement.{HasNoClash, IsFirstClash}
+use Rattle.resh_bag.specs.Bag.{Bag}
+use Rattle.resh_bag.specs.Placement.{HasNoClash, IsFirstClash}
 use Rattle.resh_model.specs.States.{is_at}
 use Rattle.resh_model.specs.declared.clash.Clash.{Clash}
 use Rattle.resh_model.proofs.placing.Clashing.{one_first}

@@ -6,7 +6,7 @@ use Rattle.resh_coord.specs.declared.cause.End.TheVariants.{Committed, Aborted}
 use Rattle.resh_setup.specs.declared.setup.Setup.{Setup}
 use Rattle.resh_setup.specs.declared.turn.Turn.{Turn}
 use Rattle.resh_setup.specs.declared.turn.Turn.TheVariants as turn
-use Rattle.resh_model.specs.Bag.{Document}
+use Rattle.resh_bag.specs.Bag.{Document}
 use Rattle.resh_model.specs.Marks.{IsRun, switched, dropped, bag_of, clash_at}
 use Rattle.resh_model.specs.Orders.{ended, opening, replies_to, commands_of, last_state, holdings_of, AllowsAll, IsLawful}
 use Rattle.resh_model.specs.OrderLaws.{mark_of, RunsAreLawful}

@@ -8,7 +8,7 @@ use Rattle.resh_coord.specs.declared.cause.End.TheVariants.{Committed, Aborted}
 use Rattle.resh_setup.specs.declared.setup.Setup.{Setup}
 use Rattle.resh_setup.specs.declared.turn.Turn.{Turn}
 use Rattle.resh_setup.specs.declared.turn.Turn.TheVariants as turn
-use Rattle.resh_model.specs.Placement.{HasNoClash}
+use Rattle.resh_bag.specs.Placement.{HasNoClash}
 use Rattle.resh_model.specs.Orders.{ended, undecided, State, opening, replies_to, commands_of, next_command, switched, dropped, turned, walked, last_state, HasNext, Allows, AllowsDrop, AllowsAll, IsLawful}
 use Rattle.resh_model.specs.OrderLaws.{is_mark, mark_of}
 use Rattle.resh_model.specs.MarkLaws.{before_mark, bag_at_mark, is_failure, AcceptsNone, HasCause, EndsHaveCauses, CommitsElse, OneMarkWithoutClients}

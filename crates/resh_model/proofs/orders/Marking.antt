@@ -4,7 +4,7 @@ use Rattle.resh_coord.specs.declared.cause.Cause.{Cause}
 use Rattle.resh_coord.specs.declared.cause.Cause.TheVariants.{Clash, Asked, Failed, NoMemory}
 use Rattle.resh_coord.specs.declared.cause.End.{End}
 use Rattle.resh_coord.specs.declared.cause.End.TheVariants.{Committed, Aborted}
-use Rattle.resh_shard.specs.declared.command.Command.{Command}
+use Rattle.resh_command.specs.declared.command.Command.{Command}
 use Rattle.resh_setup.specs.declared.setup.Setup.{Setup}
 use Rattle.resh_setup.specs.declared.turn.Turn.{Turn}
 use Rattle.resh_setup.specs.declared.turn.Turn.TheVariants as turn

@@ -1,73 +1,25 @@
 -- Each document stays where the map in force places it.
 use Rattle.std.proofs.Common.{◌≡◌, ℕ, Bool, true, false, cond, List, [], ◌∷◌, map, Some, None, refl, sym, ap, ◌∙◌}
 use Rattle.std.proofs.lemmas.List.Elements.{All-from_recursion}
-use Rattle.std.proofs.lemmas.Map.Views.{tells_apart}
-use Rattle.std.proofs.lemmas.Option.{same_Some}
-use Rattle.std.specs.FinMap.{get, get-insert, get-remove}
 use Rattle.std.specs.List.{AllByRecursion, range_with_len}
 use Rattle.std.specs.List.Sorted.{IsStrictlySortedBy}
-use Rattle.std.specs.Ordering.{eq_by_cmp}
 use Rattle.resh_value.specs.Order.{compare_of}
-use Rattle.resh_value.specs.declared.value.Value.{Value}
 use Rattle.resh_chunks.specs.Chunks.{Chunks, chunk_fault, owner_of}
-use Rattle.resh_shard.specs.declared.command.Command.{Command}
+use Rattle.resh_command.specs.declared.command.Command.{Command}
 use Rattle.resh_setup.specs.declared.setup.Setup.{Setup}
 use Rattle.resh_setup.specs.declared.turn.Turn.{Turn}
 use Rattle.resh_setup.specs.declared.turn.Turn.TheVariants as turn
 use Rattle.resh_value.specs.Lookup.{id_of}
-use Rattle.resh_model.specs.Bag.{Bag, Document, place_cmp, place_of, held, put, without, documents, IsPlaced}
-use Rattle.resh_model.specs.Placement.{part}
-use Rattle.resh_model.specs.PlaceOrder.{place_total, place_same}
-use Rattle.resh_model.specs.Answer.{doing, bag_after}
+use Rattle.resh_bag.specs.Bag.{Bag, Document, place_cmp, place_of, held, put, without, documents, IsPlaced}
+use Rattle.resh_bag.specs.Placement.{part}
+use Rattle.resh_bag.specs.Answer.{doing, bag_after}
 use Rattle.resh_model.specs.Orders.{State, opening, next_command, turned, walked, last_state, holdings_of}
 use Rattle.resh_model.specs.OrderLaws.{StaysPlaced, HoldingsRise, HoldingsKeepAll}
-use Rattle.resh_model.proofs.answers.Doings.{each_doing}
-use Rattle.resh_model.proofs.Lists.{all_mapped}
-use Rattle.resh_model.proofs.bags.Opening.{opens_placed}
-use Rattle.resh_model.proofs.shards.Parting.{keeps_all, no_clash_in_place, parts_rise}
+use Rattle.resh_bag.proofs.bags.Placed.{after_placed}
+use Rattle.resh_bag.proofs.Lists.{all_mapped}
+use Rattle.resh_bag.proofs.bags.Opening.{opens_placed}
+use Rattle.resh_bag.proofs.shards.Parting.{keeps_all, no_clash_in_place, parts_rise}
 use Rattle.resh_model.proofs.orders.Turns.{each_served}
-
-module _ (chunks : Chunks) where
-  -- what is found stands at its place
-  abbrev StandsAt : Value × ℕ → Document → Type 0
-  StandsAt q d = place_of chunks d ≡ q
-
-  found_placed : (bag : Bag) → IsPlaced chunks bag → (q : Value × ℕ) (d : Document) → get bag q ≡ Some d → StandsAt q d
-  unfolding held
-  found_placed bag placed q d is = λ i. (placed.by_id q.1 q.0 d is i, placed.by_owner q.1 q.0 d is i)
-
-  placed_from : (bag : Bag) → ((q : Value × ℕ) (d : Document) → get bag q ≡ Some d → StandsAt q d) → IsPlaced chunks bag
-  unfolding held
-  placed_from bag each = record {
-    by_id = λ shard id d is. ap (λ p. p.0) (each (id, shard) d is);
-    by_owner = λ shard id d is. ap (λ p. p.1) (each (id, shard) d is);
-  }
-
-  pub put_placed : (bag : Bag) → IsPlaced chunks bag → (d : Document) → IsPlaced chunks (put bag (owner_of chunks d) d)
-  unfolding put
-  put_placed bag placed d =
-      placed_from (put bag (owner_of chunks d) d)
-      (λ q e is. by q e (eq_by_cmp place_cmp q (place_of chunks d)) refl (sym (get-insert place_total bag (place_of chunks d) d q) ∙ is))
-    where
-      by : (q : Value × ℕ) (e : Document) (b : Bool) → eq_by_cmp place_cmp q (place_of chunks d) ≡ b → cond b (Some d) (get bag q) ≡ Some e → StandsAt q e
-      by q e true t s = ap (place_of chunks) (sym (same_Some d e s)) ∙ sym (tells_apart place_same q (place_of chunks d) t)
-      by q e false t s = found_placed bag placed q e s
-
-  pub without_placed : (bag : Bag) → IsPlaced chunks bag → (shard : ℕ) (id : Value) → IsPlaced chunks (without bag shard id)
-  unfolding without
-  without_placed bag placed shard id =
-      placed_from (without bag shard id)
-      (λ q e is. by q e (eq_by_cmp place_cmp q (id, shard)) (sym (get-remove place_total bag (id, shard) q) ∙ is))
-    where
-      by : (q : Value × ℕ) (e : Document) (b : Bool) → cond b None (get bag q) ≡ Some e → StandsAt q e
-      by q e true s = absurd (cc)
-      by q e false s = found_placed bag placed q e s
-
-  pub after_placed : (bag : Bag) → IsPlaced chunks bag → (command : Command) → IsPlaced chunks (bag_after bag (doing chunks bag command))
-  after_placed bag placed =
-      each_doing chunks bag (λ d. IsPlaced chunks (bag_after bag d)) (λ d. put_placed bag placed d)
-      (λ shard d e. put_placed (without bag shard (id_of d)) (without_placed bag placed shard (id_of d)) e) (λ shard d. without_placed bag placed shard (id_of d))
-      (λ reply other. placed)
 
 turned_placed : (setup : Setup) (state : State) (t : Turn) → IsPlaced state.map state.bag → IsPlaced (turned setup state t).map (turned setup state t).bag
 turned_placed setup state (turn.Command client refused) placed =

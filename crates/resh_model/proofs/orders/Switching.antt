@@ -12,13 +12,13 @@ use Rattle.resh_value.specs.OrderLaws.{compare_total}
 use Rattle.resh_value.specs.declared.value.Value.{Value}
 use Rattle.resh_chunks.specs.Chunks.{Chunks, owner_of}
 use Rattle.resh_value.specs.Lookup.{id_of}
-use Rattle.resh_model.specs.Bag.{Bag, Document, place_cmp, place_of, held, documents, opening_bag, HasDistinctPlaces, IsPlaced}
-use Rattle.resh_model.specs.Placement.{part, HasNoClash}
-use Rattle.resh_model.specs.PlaceOrder.{place_total, place_same}
+use Rattle.resh_bag.specs.Bag.{Bag, Document, place_cmp, place_of, held, documents, opening_bag, HasDistinctPlaces, IsPlaced}
+use Rattle.resh_bag.specs.Placement.{part, HasNoClash}
+use Rattle.resh_bag.specs.PlaceOrder.{place_total, place_same}
 use Rattle.resh_model.specs.OrderLaws.{SwitchKeeps}
-use Rattle.resh_model.proofs.Lists.{distinct_map, kept, rising_unmap, same_sorted, was_there}
-use Rattle.resh_model.proofs.bags.Opening.{opens_placed, opens_whole}
-use Rattle.resh_model.proofs.shards.Parting.{document_held, documents_rise, no_clash_in_place, parts_rise}
+use Rattle.resh_bag.proofs.Lists.{distinct_map, kept, rising_unmap, same_sorted, was_there}
+use Rattle.resh_bag.proofs.bags.Opening.{opens_placed, opens_whole}
+use Rattle.resh_bag.proofs.shards.Parting.{document_held, documents_rise, no_clash_in_place, parts_rise}
 
 one_way : (a b : Value) → compare_of a b ≡ Less → compare_of b a ≢ Less
 one_way a b below above = let both : Less ≡ Greater = sym below ∙ compare_total.antisymm a b ∙ ap ordering_reverse above in cc

@@ -1,12 +1,12 @@
 -- What a turn makes of a state, case by case, and walks over lists that are joined.
 use Rattle.std.proofs.Common.{◌≡◌, ◌≢◌, ℕ, ◌+◌, Bool, true, false, cond, List, [], ◌∷◌, ◌++◌, length, Option, Some, None, refl, ◌∙◌}
 use Rattle.std.proofs.lemmas.List.{get_or-set_other, length-set, length-map}
-use Rattle.resh_shard.specs.declared.command.Command.{Command}
-use Rattle.resh_shard.specs.declared.reply.Reply.TheVariants.{AbortAccepted, AbortTooLate, NoMemory}
+use Rattle.resh_command.specs.declared.command.Command.{Command}
+use Rattle.resh_command.specs.declared.reply.Reply.TheVariants.{AbortAccepted, AbortTooLate, NoMemory}
 use Rattle.resh_setup.specs.declared.setup.Setup.{Setup}
 use Rattle.resh_setup.specs.declared.turn.Turn.{Turn}
 use Rattle.resh_setup.specs.declared.turn.Turn.TheVariants as turn
-use Rattle.resh_model.specs.Answer.{doing}
+use Rattle.resh_bag.specs.Answer.{doing}
 use Rattle.resh_model.specs.Orders.{Fate, undecided, asked, ended, State, opening, replies_to, next_command, replied, abort_asked, done, is_abort, served, turned, walked, last_state, AllowsAll}
 
 pub walked-append : (setup : Setup) (state : State) (before after : List Turn) → walked setup state (before ++ after) ≡ walked setup (walked setup state before) after

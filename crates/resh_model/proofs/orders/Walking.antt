@@ -5,7 +5,7 @@ use Rattle.std.proofs.Math.Seq.{drop-cons}
 use Rattle.std.proofs.lemmas.List.{drop_all}
 use Rattle.resh_setup.specs.declared.setup.Setup.{Setup}
 use Rattle.resh_setup.specs.declared.turn.Turn.{Turn}
-use Rattle.resh_model.specs.Bag.{IsPlaced}
+use Rattle.resh_bag.specs.Bag.{IsPlaced}
 use Rattle.resh_model.specs.Orders.{State, opening, turned, walked, last_state, Allows, AllowsAll}
 use Rattle.resh_model.proofs.orders.Placed.{stays_placed}
 

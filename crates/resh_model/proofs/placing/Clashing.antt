@@ -13,8 +13,8 @@ use Rattle.resh_value.specs.OrderLaws.{compare_same}
 use Rattle.resh_value.specs.declared.value.Value.{Value}
 use Rattle.resh_chunks.specs.Chunks.{Chunks}
 use Rattle.resh_value.specs.Lookup.{id_of}
-use Rattle.resh_model.specs.Bag.{Bag, Document, documents, opening_bag, IsPlaced}
-use Rattle.resh_model.specs.Placement.{clash_cmp, HasNoClash, IsFirstClash}
+use Rattle.resh_bag.specs.Bag.{Bag, Document, documents, opening_bag, IsPlaced}
+use Rattle.resh_bag.specs.Placement.{clash_cmp, HasNoClash, IsFirstClash}
 use Rattle.resh_model.specs.Seats.{clash_total, seat_cmp, IsSeating, IsFirstTie, TiesAt}
 use Rattle.resh_model.specs.declared.seat.Seat.{Seat}
 use Rattle.resh_model.proofs.placing.SeatClashes.{no_clash, first_clash}

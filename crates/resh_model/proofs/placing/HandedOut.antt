@@ -6,7 +6,7 @@ use Rattle.std.proofs.lemmas.List.Elements.{All-head, All-push, All-rest, All-sa
 use Rattle.std.proofs.lemmas.List.FromFn.{fill_by_all, length-map-range_with_len, get_or-map-range_with_len, map-range_with_len_more}
 use Rattle.std.specs.List.{All, range_with_len}
 use Rattle.resh_chunks.specs.Chunks.{Chunks}
-use Rattle.resh_model.specs.Bag.{Document}
+use Rattle.resh_bag.specs.Bag.{Document}
 use Rattle.resh_model.specs.Seats.{handed_out, IsSeated}
 use Rattle.resh_model.specs.declared.seat.Seat.{Seat}
 

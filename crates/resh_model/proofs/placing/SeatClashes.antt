@@ -20,11 +20,11 @@ use Rattle.resh_value.specs.OrderLaws.{compare_same}
 use Rattle.resh_value.specs.declared.value.Value.{Value}
 use Rattle.resh_chunks.specs.Chunks.{Chunks, owner_of}
 use Rattle.resh_value.specs.Lookup.{id_of}
-use Rattle.resh_model.specs.Bag.{Bag, Document, held, opening_bag, HasDistinctPlaces, IsPlaced}
-use Rattle.resh_model.specs.Placement.{clash_cmp, IsClash, HasNoClash, IsFirstClash}
-use Rattle.resh_model.proofs.Lists.{mapped, unmapped}
-use Rattle.resh_model.proofs.bags.Opening.{opens_placed}
-use Rattle.resh_model.proofs.shards.Parting.{held_document, document_held}
+use Rattle.resh_bag.specs.Bag.{Bag, Document, held, opening_bag, HasDistinctPlaces, IsPlaced}
+use Rattle.resh_bag.specs.Placement.{clash_cmp, IsClash, HasNoClash, IsFirstClash}
+use Rattle.resh_bag.proofs.Lists.{mapped, unmapped}
+use Rattle.resh_bag.proofs.bags.Opening.{opens_placed}
+use Rattle.resh_bag.proofs.shards.Parting.{held_document, document_held}
 use Rattle.resh_model.specs.Seats.{target, target_cmp, clash_total, target_total, seat_cmp, seat_total, same_target, IsSeated, IsSeating, TiesAt}
 use Rattle.resh_model.specs.declared.seat.Seat.{Seat}
 use Rattle.resh_model.proofs.placing.Seating.{seat_in_bag, bag_in_seat, seats_differ}

@@ -10,7 +10,7 @@ use Rattle.resh_coord.specs.declared.cause.End.TheVariants.{Committed, Aborted}
 use Rattle.resh_setup.specs.declared.turn.Turn.{Turn}
 use Rattle.resh_setup.specs.declared.turn.Turn.TheVariants.{Switch, Drop}
 use Rattle.resh_value.specs.Lookup.{id_of}
-use Rattle.resh_model.specs.Bag.{Document, opening_bag, HasDistinctPlaces}
+use Rattle.resh_bag.specs.Bag.{Document, opening_bag, HasDistinctPlaces}
 use Rattle.resh_model.specs.Marks.{clash_at, IsRun}
 use Rattle.resh_model.specs.Seats.{seat_cmp, sent_back, handed_out, IsSeated, IsSeating, IsFirstTie, TiesAt}
 use Rattle.resh_model.specs.declared.seat.Seat.{Seat}

@@ -15,12 +15,12 @@ use Rattle.resh_value.specs.Order.{compare_of}
 use Rattle.resh_value.specs.declared.value.Value.{Value}
 use Rattle.resh_chunks.specs.Chunks.{Chunks, owner_of}
 use Rattle.resh_value.specs.Lookup.{id_of}
-use Rattle.resh_model.specs.Bag.{Bag, Document, place_cmp, place_of, documents, opening_bag, HasDistinctPlaces}
-use Rattle.resh_model.specs.PlaceOrder.{place_total}
-use Rattle.resh_model.specs.Placement.{part, parts}
-use Rattle.resh_model.proofs.Lists.{kept, was_there, same_sorted, still_rising, rising_map}
-use Rattle.resh_model.proofs.bags.Opening.{opens_placed, opens_whole}
-use Rattle.resh_model.proofs.shards.Parting.{documents_rise}
+use Rattle.resh_bag.specs.Bag.{Bag, Document, place_cmp, place_of, documents, opening_bag, HasDistinctPlaces}
+use Rattle.resh_bag.specs.PlaceOrder.{place_total}
+use Rattle.resh_bag.specs.Placement.{part, parts}
+use Rattle.resh_bag.proofs.Lists.{kept, was_there, same_sorted, still_rising, rising_map}
+use Rattle.resh_bag.proofs.bags.Opening.{opens_placed, opens_whole}
+use Rattle.resh_bag.proofs.shards.Parting.{documents_rise}
 use Rattle.resh_model.specs.Seats.{seat_cmp, seat_total, sent_back, handed_out, IsSeated, IsSeating}
 use Rattle.resh_model.specs.declared.seat.Seat.{Seat}
 use Rattle.resh_model.proofs.placing.SortedSeats.{strict_from_distinct}

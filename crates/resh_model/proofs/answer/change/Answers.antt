@@ -2,7 +2,7 @@ use Rattle.std.proofs.Common.{sym, ap, ◌∙◌}
 use Rattle.std.proofs.lemmas.Result.{IfOk-weaker}
 use Rattle.resh_chunks.specs.Chunks.{owner_of}
 use Rattle.resh_ops.specs.Updates.{updated}
-use Rattle.resh_model.specs.Answer.{result_doing, text_limit}
+use Rattle.resh_bag.specs.Answer.{result_doing, text_limit}
 use Rattle.resh_model.proofs.answers.Hitting.{hit_doing}
 use Rattle.resh_model.proofs.answer.change.Goals as goal
 

@@ -1,9 +1,9 @@
 use Rattle.std.proofs.Common.{◌≡◌, sym, ap, ◌∙◌, length, filter, take}
 use Rattle.std.proofs.lemmas.Result.{IfOk-weaker}
 use Rattle.resh_filter.specs.Filters.{matches}
-use Rattle.resh_shard.specs.declared.reply.Reply.TheVariants.{Found, Counted}
-use Rattle.resh_model.specs.Bag.{documents}
-use Rattle.resh_model.specs.Answer.{doing, says}
+use Rattle.resh_command.specs.declared.reply.Reply.TheVariants.{Found, Counted}
+use Rattle.resh_bag.specs.Bag.{documents}
+use Rattle.resh_bag.specs.Answer.{doing, says}
 use Rattle.resh_model.specs.declared.collection.Entry.{Entry}
 use Rattle.resh_model.proofs.answers.Showing.{counted}
 use Rattle.resh_model.proofs.answer.doing_of.Goals as goal

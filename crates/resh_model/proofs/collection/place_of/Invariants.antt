@@ -1,5 +1,5 @@
 use Rattle.std.proofs.Common.{◌-◌, map}
-use Rattle.resh_model.specs.Bag.{place_cmp}
+use Rattle.resh_bag.specs.Bag.{place_cmp}
 use Rattle.resh_model.specs.Entries.{keyed}
 use Rattle.resh_model.proofs.bags.SortedEntries.{IsBetween}
 use Rattle.resh_model.proofs.collection.place_of.Given as goal

@@ -1,6 +1,6 @@
 use Rattle.std.proofs.Common.{◌≡◌, ◌∙◌, eqb, filter, ap}
 use Rattle.resh_chunks.specs.Chunks.{owner_of}
-use Rattle.resh_model.specs.Placement.{part}
+use Rattle.resh_bag.specs.Placement.{part}
 use Rattle.resh_model.proofs.shards.Holding.{next_of}
 use Rattle.resh_model.proofs.plain.holdings_of.Goals as goal
 

@@ -1,6 +1,6 @@
 use Rattle.std.proofs.Common.{◌≡◌, map}
 use Rattle.std.specs.List.{range_with_len}
-use Rattle.resh_model.specs.Placement.{part}
+use Rattle.resh_bag.specs.Placement.{part}
 use Rattle.resh_model.proofs.plain.holdings_of.Given as goal
 
 abbrev pub invariant-loop-shard : goal.invariant-loop-shard

@@ -1,5 +1,5 @@
 use Rattle.std.proofs.Common.{sym, ◌∙◌, subst}
-use Rattle.resh_model.specs.Bag.{HasDistinctPlaces}
+use Rattle.resh_bag.specs.Bag.{HasDistinctPlaces}
 use Rattle.resh_run.proofs.Pages.{says_page}
 use Rattle.resh_run.proofs.PlacementPlaces.{distinct_rows}
 use Rattle.resh_run.proofs.decision.setup_says.Goals as goal

@@ -1,5 +1,5 @@
 use Rattle.std.proofs.Common.{ap, sym, ◌∙◌, map}
-use Rattle.resh_model.specs.Bag.{documents}
+use Rattle.resh_bag.specs.Bag.{documents}
 use Rattle.resh_model.specs.declared.collection.Entry.{Entry}
 use Rattle.resh_model.proofs.bags.Gathered.{gathered_documents}
 use Rattle.resh_model.proofs.collection.Collection.entries.Goals as goal

@@ -1,5 +1,5 @@
 use Rattle.std.proofs.Common.{◌-◌, ◌∙◌, arith}
-use Rattle.resh_model.specs.Bag.{put}
+use Rattle.resh_bag.specs.Bag.{put}
 use Rattle.resh_model.proofs.bags.Opened.{opened_none, opened_more}
 use Rattle.resh_model.proofs.collection.Collection.opening.Goals as goal
 

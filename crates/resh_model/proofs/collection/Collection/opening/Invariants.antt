@@ -1,5 +1,5 @@
 use Rattle.std.proofs.Common.{◌≡◌, ◌≤◌, length, drop}
-use Rattle.resh_model.specs.Bag.{opening_bag}
+use Rattle.resh_bag.specs.Bag.{opening_bag}
 use Rattle.resh_model.proofs.collection.Collection.opening.Given as goal
 
 abbrev pub invariant-loop-place : goal.invariant-loop-place

@@ -1,7 +1,7 @@
 use Rattle.std.proofs.Common.{◌≡◌, sym, subst}
 use Rattle.std.specs.Bool.{Decides}
 use Rattle.resh_model.specs.Orders.{undecided}
-use Rattle.resh_model.specs.Placement.{IsFirstClash}
+use Rattle.resh_bag.specs.Placement.{IsFirstClash}
 use Rattle.resh_model.specs.States.{fate_of}
 use Rattle.resh_model.proofs.orders.Deciding.{clash_decided}
 use Rattle.resh_model.proofs.state.State.allows_clash.Goals as goal

@@ -1,0 +1,4 @@
+pub mod answers
+pub mod bags
+pub mod shards
+pub mod Lists

@@ -1,0 +1,5 @@
+pub mod BagLaws
+pub mod Entries
+pub mod Opening
+pub mod Placed
+pub mod WholeHeld

@@ -1,0 +1,9 @@
+pub mod Answer
+pub mod Bag
+pub mod Findings
+pub mod Laws
+pub mod PartLaws
+pub mod Parts
+pub mod PlaceOrder
+pub mod Placement
+pub mod WholeLaws

@@ -1,5 +1,0 @@
-use Rattle.resh_model.proofs.shards.ByRecipient.{clashes_by_recipient}
-use Rattle.resh_model.proofs.laws.clashes_by_recipient.Goals as goal
-
-pub returns : goal.returns
-returns c = clashes_by_recipient

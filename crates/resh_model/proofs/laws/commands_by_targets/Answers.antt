@@ -1,5 +1,0 @@
-use Rattle.resh_model.proofs.shards.Locality.{answered_by_targets}
-use Rattle.resh_model.proofs.laws.commands_by_targets.Goals as goal
-
-pub returns : goal.returns
-returns c = answered_by_targets

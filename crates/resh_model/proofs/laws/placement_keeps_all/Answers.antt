@@ -1,5 +1,0 @@
-use Rattle.resh_model.proofs.shards.Parting.{keeps_all}
-use Rattle.resh_model.proofs.laws.placement_keeps_all.Goals as goal
-
-pub returns : goal.returns
-returns c = keeps_all
