@@ -1,13 +1,16 @@
 -- The shards of a target are those that the command is for.
-use Rattle.std.proofs.Common.{◌≡◌, ◌++◌, Bool, true, false, cond, [], ◌∷◌, Some, refl, sym, subst}
+use Rattle.std.proofs.Common.{◌||◌, ◌≡◌, ◌==◌, ◌++◌, ◌∙◌, ap, ℕ, Option, Bool, true, false, cond, [], ◌∷◌, Some, None, refl, sym, subst}
+use Rattle.std.proofs.lemmas.List.Folds.{list_any-append}
 use Rattle.resh_chunks.specs.Chunks.{Chunks, owner_of}
 use Rattle.resh_command.specs.declared.command.Command.{Command}
 use Rattle.resh_command.specs.declared.command.Command.TheVariants.{Insert, Update, Delete, Find, Count, Abort}
-use Rattle.resh_bag.specs.Answer.{doing, has_key}
-use Rattle.resh_bag.specs.Bag.{Document}
-use Rattle.resh_bag.specs.Parts.{all_shards, all_targets, bag_on, has_pattern, places_of, targets}
+use Rattle.resh_value.specs.Lookup.{id_of}
+use Rattle.resh_command.specs.declared.reply.Reply.TheVariants.{NoKey as NoKeyReply}
+use Rattle.resh_bag.specs.Answer.{doing, has_key, hit, insert_doing, on_hit, removes, says}
+use Rattle.resh_bag.specs.Bag.{Bag, Document, held}
+use Rattle.resh_bag.specs.Parts.{all_shards, all_targets, bag_on, has_pattern, is_among, places_of, targets}
 use Rattle.resh_bag.proofs.shards.Locality.{answered_by_targets}
-use Rattle.resh_router.specs.Laws.{AnswersByTarget}
+use Rattle.resh_router.specs.Laws.{AnswersAlone, AnswersByTarget, is_update}
 use Rattle.resh_router.specs.Targets.{by_key, by_owner, by_pattern, shards_of, target_of}
 use Rattle.resh_router.specs.declared.goal.Target.{Target}
 use Rattle.resh_router.specs.declared.goal.Target.TheVariants.{All, NoKey}
@@ -44,3 +47,36 @@ answers_by_target chunks bag command target placed whole is =
     subst (λ ts. doing chunks (bag_on chunks bag (ts ++ places_of (doing chunks (bag_on chunks bag ts) command))) command ≡ doing chunks bag command)
     (sym (shards_are chunks command target is))
     (answered_by_targets chunks bag command placed whole (all_targets chunks bag command) (λ s h. h))
+
+-- what a command but an update does is done on the shards that it is for
+module _ (chunks : Chunks) (bag : Bag) (s : ℕ) where
+  insert_there : (d : Document) (o : Option Document) → is_among (places_of (insert_doing (owner_of chunks d) d o)) s ≡ true → is_among (owner_of chunks d ∷ []) s ≡ true
+  insert_there d None h = h
+  insert_there d (Some e) h = cc
+
+  delete_there : (f : Document) (o : Option Document) (b : Bool) → is_among (places_of (cond b (on_hit (λ d. removes (owner_of chunks f) d) o) (says NoKeyReply))) s ≡ true
+      → is_among (cond b (owner_of chunks f ∷ []) (0 ∷ [])) s ≡ true
+  delete_there f None true h = cc
+  delete_there f (Some d) true h = h
+  delete_there f o false h = cc
+
+  done_there : (command : Command) → is_update command ≡ false → is_among (places_of (doing chunks bag command)) s ≡ true → is_among (targets chunks command) s ≡ true
+  done_there (Insert d) other h = insert_there d (held bag (owner_of chunks d) (id_of d)) h
+  done_there (Update f u) other h = cc
+  done_there (Delete f) other h = delete_there f (hit chunks bag f) (has_key chunks f) h
+  done_there (Find f) other h = cc
+  done_there (Count f) other h = cc
+  done_there Abort other h = cc
+
+pub answers_alone : AnswersAlone
+answers_alone chunks bag command target placed whole is other =
+    subst (λ ts. doing chunks (bag_on chunks bag ts) command ≡ doing chunks bag command) (sym (shards_are chunks command target is))
+    (answered_by_targets chunks bag command placed whole (targets chunks command)
+    (λ s h. covered s (is_among (targets chunks command) s) refl (sym (list_any-append (λ t. t == s) (targets chunks command) (places_of (doing chunks (bag_on chunks bag (targets chunks command)) command))) ∙ h)))
+  where
+    covered : (s : ℕ) (b : Bool) → is_among (targets chunks command) s ≡ b
+        → (is_among (targets chunks command) s || is_among (places_of (doing chunks (bag_on chunks bag (targets chunks command)) command)) s) ≡ true → is_among (targets chunks command) s ≡ true
+    covered s true e h = e
+    covered s false e h =
+        done_there chunks (bag_on chunks bag (targets chunks command)) s command other
+        (sym (ap (λ b. b || is_among (places_of (doing chunks (bag_on chunks bag (targets chunks command)) command)) s) e) ∙ h)

@@ -3,7 +3,7 @@ use Rattle.std.specs.Prelude.{◌≡◌, ◌<◌, ◌||◌, Bool, true, false, L
 use Rattle.resh_value.specs.declared.value.ShardId.{ShardId}
 use Rattle.resh_chunks.specs.Chunks.{Chunks, chunk_fault}
 use Rattle.resh_command.specs.declared.command.Command.{Command}
-use Rattle.resh_command.specs.declared.command.Command.TheVariants.{Find, Count}
+use Rattle.resh_command.specs.declared.command.Command.TheVariants.{Update, Find, Count}
 use Rattle.resh_command.specs.declared.reply.Reply.{Reply}
 use Rattle.resh_bag.specs.Answer.{doing, reply_of}
 use Rattle.resh_bag.specs.Bag.{Bag, IsPlaced}
@@ -20,6 +20,17 @@ AnswersByTarget = (chunks : Chunks) (bag : Bag) (command : Command) (target : Ta
     ++ places_of (doing chunks (bag_on chunks bag (shards_of chunks target)) command))) command
     ≡ doing chunks bag command
 
+abbrev pub is_update : Command → Bool
+is_update (Update filter update) = true
+is_update other = false
+
+-- but for an update the shards of the target alone are enough
+abbrev pub AnswersAlone : Type 0
+AnswersAlone = (chunks : Chunks) (bag : Bag) (command : Command) (target : Target)
+    → IsPlaced chunks bag → chunk_fault chunks ≡ None → target_of chunks command ≡ Some target
+    → is_update command ≡ false
+    → doing chunks (bag_on chunks bag (shards_of chunks target)) command ≡ doing chunks bag command
+
 abbrev pub is_reading : Command → Bool
 is_reading (Find filter) = true
 is_reading (Count filter) = true
@@ -33,8 +44,8 @@ own_reply chunks bag command shard = (shard, reply_of (doing chunks (bag_on chun
 abbrev pub own_replies : Chunks → Bag → Command → List ShardId → List Part
 own_replies chunks bag command shards = map (own_reply chunks bag command) shards
 
--- the replies of a command's targets, each by its own part, are some, and all to a find or all to a count; they merge to
--- the reply of all
+-- the replies of a command's targets, each by its own part, are some, and all to a find or all to a count; what they
+-- merge to is the reply of all
 pub record MergesToAnswer : Type 0 where
   pub some : (chunks : Chunks) (bag : Bag) (command : Command) (shards : List ShardId)
       → chunk_fault chunks ≡ None → is_reading command ≡ true
