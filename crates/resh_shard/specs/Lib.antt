@@ -1,0 +1,4 @@
+pub mod Differences
+pub mod Writes
+pub mod Shards
+pub mod Decisions
