@@ -2,7 +2,7 @@
 use Rattle.std.proofs.Common.{◌≡◌, ◌==◌, ◌⊎◌, inl, inr, ⊎_elim, ℕ, Bool, true, false, cond, List, [], ◌∷◌, ◌++◌, filter, map, Option, Some, None, refl, sym, ap, ◌∙◌, subst, arith}
 use Rattle.std.proofs.lemmas.Bool.{eqb-true}
 use Rattle.std.proofs.lemmas.Bool.Decides.{eqb_tells}
-use Rattle.std.proofs.lemmas.List.{append_assoc}
+use Rattle.std.proofs.lemmas.List.{append_assoc, map-append}
 use Rattle.std.proofs.lemmas.List.Sums.{fold-append}
 use Rattle.std.specs.List.{AllByRecursion, Contains}
 use Rattle.std.specs.List.Sorted.{IsStrictlySortedBy}
@@ -16,8 +16,11 @@ use Rattle.resh_versions.specs.Standing.{VersionsOf, IsFiled, standing_after}
 use Rattle.resh_versions.proofs.GoingOn.{lists_go_on}
 use Rattle.resh_versions.proofs.KeptLists.{keeps_lists}
 use Rattle.resh_versions.proofs.Listing.{first_or_later, first_there, later_there, stands_by_reading}
-use Rattle.resh_feed.specs.Feeds.{is_past}
-use Rattle.resh_feed.specs.Items.{last_id_of}
+use Rattle.resh_feed.specs.Feeds.{feed_items, is_past}
+use Rattle.resh_oplog.specs.Logs.{later_entries}
+use Rattle.resh_oplog.specs.declared.entry.Entry.{Entry}
+use Rattle.resh_feed.specs.Items.{cloned_item, fetched_item, last_id_of, up_to_final}
+use Rattle.resh_feed.specs.declared.item.Item.{Item}
 use Rattle.resh_feed.proofs.GoingOn.{by_last, documents_on, rising_filter}
 use Rattle.resh_cloner.specs.Cloning.{clone_part, comes_to, left_after}
 use Rattle.resh_cloner.specs.Laws.{ClonesEach, ClonesInOrder, GoesOn, StaysCloned}
@@ -83,8 +86,21 @@ module _ (versions : VersionsOf) (new_map : Chunks) (time recipient : ℕ) (file
       ap (left_after versions new_map time recipient) last ∙ lists_go_on.behind versions time None (comes_to new_map recipient) some.0 rest some.1 filed split)
       (by_last read)
 
+  -- the items of what was read, of what is left and of the entries
+  feed_parted : (log : List Entry) (read rest : List Document) → clone_part versions new_map time recipient ≡ read ++ rest
+      → feed_items recipient time (clone_part versions new_map time recipient) log
+      ≡ map cloned_item read ++ map cloned_item (left_after versions new_map time recipient (last_id_of read)) ++ map fetched_item (up_to_final (later_entries time recipient log))
+  feed_parted log read rest is =
+      ap (λ ds. map cloned_item ds ++ entries) is
+      ∙ ap (λ l. l ++ entries) (map-append cloned_item read rest)
+      ∙ ap (λ ds. map cloned_item read ++ map cloned_item ds ++ entries) (sym (goes_on read rest is))
+    where
+      entries : List Item
+      entries = map fetched_item (up_to_final (later_entries time recipient log))
+
 pub clone_goes_on : GoesOn
 clone_goes_on = record {
+  items = λ versions new_map time recipient log read rest filed is. feed_parted versions new_map time recipient filed log read rest is;
   rest = λ versions new_map time recipient read rest filed is. goes_on versions new_map time recipient filed read rest is;
   next = λ versions new_map time recipient read rest filed is.
       goes_on versions new_map time recipient filed read rest is

@@ -9,8 +9,10 @@ use Rattle.resh_chunks.specs.Chunks.{Chunks, owner_of}
 use Rattle.resh_versions.specs.Chains.{Document, IsStored}
 use Rattle.resh_versions.specs.Standing.{VersionsOf, IsFiled, StandsUnder, at, is_above, pruned, with_version}
 use Rattle.resh_versions.specs.declared.version.Version.{Version}
-use Rattle.resh_feed.specs.Feeds.{next_documents}
-use Rattle.resh_feed.specs.Items.{last_id_of}
+use Rattle.resh_oplog.specs.Logs.{later_entries}
+use Rattle.resh_oplog.specs.declared.entry.Entry.{Entry}
+use Rattle.resh_feed.specs.Feeds.{feed_items, next_documents}
+use Rattle.resh_feed.specs.Items.{cloned_item, fetched_item, last_id_of, up_to_final}
 use Rattle.resh_cloner.specs.Cloning.{clone_part, left_after}
 
 -- what is left is what stood at the fetch time above an `_id` and comes to the recipient
@@ -30,7 +32,8 @@ pub record ClonesInOrder : Type 0 where
   pub whole : (versions : VersionsOf) (new_map : Chunks) (time recipient : ℕ) (after : Option Value)
       → IsFiled versions.chains → AllByRecursion IsStored (left_after versions new_map time recipient after)
 
--- what is left above the last document that was read is the rest of the part: the feed's next documents
+-- what is left above the last document that was read is the rest of the part: the feed's next documents, whose items
+-- stand in the feed behind those of what was read and before its entries
 pub record GoesOn : Type 0 where
   pub rest : (versions : VersionsOf) (new_map : Chunks) (time recipient : ℕ) (read rest : List Document)
       → IsFiled versions.chains → clone_part versions new_map time recipient ≡ read ++ rest
@@ -39,6 +42,12 @@ pub record GoesOn : Type 0 where
       → IsFiled versions.chains → clone_part versions new_map time recipient ≡ read ++ rest
       → left_after versions new_map time recipient (last_id_of read)
       ≡ next_documents read (clone_part versions new_map time recipient)
+  pub items : (versions : VersionsOf) (new_map : Chunks) (time recipient : ℕ) (log : List Entry)
+      (read rest : List Document)
+      → IsFiled versions.chains → clone_part versions new_map time recipient ≡ read ++ rest
+      → feed_items recipient time (clone_part versions new_map time recipient) log
+      ≡ map cloned_item read ++ map cloned_item (left_after versions new_map time recipient (last_id_of read))
+      ++ map fetched_item (up_to_final (later_entries time recipient log))
 
 -- later versions and prunings leave it
 pub record StaysCloned : Type 0 where
