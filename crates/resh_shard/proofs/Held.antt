@@ -12,10 +12,11 @@ use Rattle.std.specs.declared.cmp.Ordering.{Ordering}
 use Rattle.resh_value.specs.Lookup.{id_of}
 use Rattle.resh_value.specs.Order.{compare_of}
 use Rattle.resh_value.specs.OrderLaws.{compare_itself, compare_same}
+use Rattle.resh_value.specs.Whole.{is_whole}
 use Rattle.resh_value.specs.declared.value.Value.{Value}
-use Rattle.resh_versions.specs.Standing.{IsFiled, VersionsOf, chain_of, now, standing_now}
+use Rattle.resh_versions.specs.Standing.{IsFiled, StandsUnder, VersionsOf, chain_of, now, standing_now}
 use Rattle.resh_versions.proofs.ChainLaws.{newest_has}
-use Rattle.resh_versions.proofs.Filing.{chain_named}
+use Rattle.resh_versions.proofs.Filing.{chain_named, chain_stands}
 use Rattle.resh_versions.proofs.Listing.{stands_now}
 use Rattle.resh_bag.specs.Bag.{Bag, Document, documents, held, place_cmp, put}
 use Rattle.resh_bag.specs.Parts.{bag_over, of_id, put_all}
@@ -55,6 +56,9 @@ find_all p (y ∷ ys) x there t = by (λ later. find_all p ys x later t) (p y) r
 -- what stands under an `_id` has it
 pub stands_named : (v : VersionsOf) → IsFiled v.chains → (id : Value) (d : Document) → now v id ≡ Some d → id_of d ≡ id
 stands_named v are id d f = subst (λ o. IfSome o (λ x. id_of x ≡ id)) f (newest_has (λ x. id_of x ≡ id) (chain_of v id) (chain_named v.chains id are))
+
+pub stands_whole : (v : VersionsOf) → IsFiled v.chains → (id : Value) (d : Document) → now v id ≡ Some d → is_whole d ≡ true
+stands_whole v are id d f = (subst (λ o. IfSome o (StandsUnder id)) f (newest_has (StandsUnder id) (chain_of v id) (chain_stands v.chains id are))).whole
 
 -- documents by rising `_id` are those of the bag that they make on one shard
 module _ (n : ℕ) where
@@ -99,7 +103,7 @@ module _ (v : VersionsOf) (are : IsFiled v.chains) where
   all = standing_now v None
 
   -- what stands under an `_id` is listed under it
-  of_id_now : (id : Value) → of_id id all ≡ now v id
+  pub of_id_now : (id : Value) → of_id id all ≡ now v id
   of_id_now id = by (of_id id all) refl (now v id) refl
     where
       by : (o : Option Document) → of_id id all ≡ o → (p : Option Document) → now v id ≡ p → of_id id all ≡ now v id

@@ -4,12 +4,14 @@
 
 mod act;
 mod deciding;
+mod laws;
 mod logging;
 mod reading;
 mod shard;
 mod state;
 
 pub use act::{Act, Decision, TakeIn, Which, Write};
+pub use laws::{log_laws, shard_laws};
 pub use resh_command::{Command, Commands, Replies, Reply};
 pub use shard::Shard;
 pub use state::ShardState;
