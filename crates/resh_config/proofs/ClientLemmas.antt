@@ -1,5 +1,5 @@
 -- What clients that were read have kept.
-use Rattle.std.proofs.Common.{◌≡◌, ◌∙◌, ℕ, ◌+◌, ◌≤◌, true, ltb, List, [], ◌∷◌, ◌++◌, length, Option, Some, None, Ok, refl, subst, arith}
+use Rattle.std.proofs.Common.{◌≡◌, ℕ, ◌+◌, ◌≤◌, true, ltb, List, [], ◌∷◌, ◌++◌, length, Option, Some, None, Ok, refl, subst, arith}
 use Rattle.std.specs.Prelude.{codes}
 use Rattle.std.specs.List.{AllByRecursion}
 use Rattle.std.proofs.lemmas.Bool.{ltb-false}
@@ -12,7 +12,6 @@ use Rattle.resh_ops.proofs.ReadPaths.{update_has_paths}
 use Rattle.resh_command.specs.declared.command.Command.{Command}
 use Rattle.resh_command.specs.declared.command.Command.TheVariants.{Insert, Update, Delete, Find, Count, Abort}
 use Rattle.resh_setup.specs.Documents.{Document, IsFilter, IsCommand, inserts, updates, deletes, finds, counts, aborts}
-use Rattle.resh_setup.specs.Names.{each_after}
 use Rattle.resh_setup.specs.Validity.{AreClients, command_count, is_new_name, is_named_apart}
 use Rattle.resh_setup.specs.declared.client.Client.{Client}
 use Rattle.resh_value.specs.declared.walk_fault.WalkFault.TheVariants.{At}

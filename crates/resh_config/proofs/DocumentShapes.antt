@@ -1,5 +1,5 @@
 -- Documents and filters that were read have rising names and few levels.
-use Rattle.std.proofs.Common.{◌≡◌, ◌∙◌, ℕ, ◌+◌, ◌^◌, ◌≤◌, ℤ, pos, Bool, true, false, cond, ltb, List, [], ◌∷◌, map, max, Option, Some, None, Result, Ok, Err, refl, sym, ap, subst, arith, rules}
+use Rattle.std.proofs.Common.{◌≡◌, ◌∙◌, ℕ, ◌+◌, ◌^◌, ◌≤◌, ℤ, pos, Bool, true, false, cond, ltb, List, [], ◌∷◌, map, max, Option, Some, None, Ok, refl, sym, ap, subst, arith, rules}
 use Rattle.std.specs.Prelude.{◌||◌, nat_lt, option_map, option_and_then, suc, codes}
 use Rattle.std.specs.List.{list_any}
 use Rattle.std.specs.Map.{keys_of}
@@ -7,18 +7,16 @@ use Rattle.std.specs.List.Sorted.{IsStrictlySortedBy}
 use Rattle.std.proofs.lemmas.Bool.{ltb-false}
 use Rattle.serde_json.specs.Find.{as_str, as_object}
 use Rattle.serde_json.specs.Data.{Num, unsigned, negative, float, Data, null, boolean, number, string, array, object, Items, no_items, item, Members, no_members, member}
-use Rattle.resh_value.specs.Depth.{greatest, levels_of, levels_step, document_levels}
+use Rattle.resh_value.specs.Depth.{greatest, levels_of, document_levels}
 use Rattle.resh_value.specs.Names.{name_cmp, same_name, HasRisingNames}
-use Rattle.resh_value.specs.Outcome.{and_then, in_err}
+use Rattle.resh_value.specs.Outcome.{and_then}
 use Rattle.resh_value.specs.Paths.{to_name, to_place}
 use Rattle.resh_value.specs.Tags.{oid_of, oid_in, whole_in, instant_of, date_in, tagged, tag_of}
 use Rattle.resh_value.specs.FromJson.{Read, whole, is_too_deep, has_dollar_name, object_value, value_at, items_at, members_at, walked_document}
 use Rattle.resh_value.specs.Walk.{ends, under, at_step, as_kind}
 use Rattle.resh_value.specs.declared.value.Value.{Value, the_lemmas}
 use Rattle.resh_value.specs.declared.value.Value.TheVariants.{Null, Int, Text, Doc, List as Array, Oid, Bool as Boolean, Date}
-use Rattle.resh_value.specs.declared.fault.ValueFaultKind.{ValueFaultKind}
 use Rattle.resh_value.specs.declared.fault.ValueFaultKind.TheVariants.{NotWhole, TooDeep, DollarName}
-use Rattle.resh_value.specs.declared.walk_fault.WalkFault.{WalkFault}
 use Rattle.resh_value.proofs.levels.Levels.{levels-Doc}
 use Rattle.resh_filter.specs.declared.fault.FilterFaultKind.TheVariants.{Value as InValue}
 use Rattle.resh_filter.specs.Filters.{is_dotted, first_dotted, dotted_in, undotted, walked_filter}

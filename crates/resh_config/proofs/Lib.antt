@@ -6,6 +6,7 @@ mod ListLemmas
 mod Outcomes
 mod PlanLemmas
 pub mod Readings
+mod RisingIds
 mod SamePlaces
 mod SetupLemmas
 mod SortedMembers

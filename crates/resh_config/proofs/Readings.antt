@@ -1,8 +1,7 @@
 -- What is read of the bytes is what they are.
-use Rattle.std.proofs.Common.{◌≡◌, ◌≢◌, ◌∙◌, ℕ, List, Result, Ok, Err, sym, ap}
-use Rattle.std.specs.Prelude.{IfOk, MatchResult}
+use Rattle.std.proofs.Common.{◌≡◌, ◌≢◌, ◌∙◌, ℕ, List, Ok, Err, sym, ap}
 use Rattle.serde_json.specs.Data.{Data}
-use Rattle.resh_value.specs.Outcome.{Gives, in_err}
+use Rattle.resh_value.specs.Outcome.{in_err}
 use Rattle.resh_value.specs.declared.walk_fault.WalkFault.{WalkFault}
 use Rattle.resh_value.specs.declared.walk_fault.WalkFault.TheVariants.{NoMemory as NoRoom}
 use Rattle.resh_setup.specs.Validity.{IsValid}
@@ -10,7 +9,7 @@ use Rattle.resh_setup.specs.declared.setup.Setup.{Setup}
 use Rattle.resh_setup.specs.declared.fault.SetupFault.{SetupFault}
 use Rattle.resh_setup.specs.declared.fault.SetupFault.TheVariants.{NoMemory}
 use Rattle.resh_config.specs.declared.faults.FaultKind.{FaultKind}
-use Rattle.resh_config.specs.Faults.{Read, fault_of}
+use Rattle.resh_config.specs.Faults.{fault_of}
 use Rattle.resh_config.specs.ClusterFile.{IsReading, read, no_reading, IsSetup, IsRefused, setup_in}
 use Rattle.resh_config.proofs.Outcomes.{Ok-in_err}
 use Rattle.resh_config.proofs.SortedMembers.{read_tidy}

@@ -1,5 +1,5 @@
 -- Clients and their commands.
-use Rattle.std.specs.Prelude.{ℕ, ◌+◌, Bool, false, cond, ◌&&◌, nat_lt, List, [], ◌∷◌, length, codes, Option, Some, None, is_none, is_some, option_and_then, unwrap_or, Ok}
+use Rattle.std.specs.Prelude.{ℕ, ◌+◌, Bool, false, cond, ◌&&◌, nat_lt, List, [], ◌∷◌, codes, Option, Some, None, is_none, is_some, option_and_then, unwrap_or, Ok}
 use Rattle.std.specs.List.{list_all}
 use Rattle.serde_json.specs.Data.{Data, null, boolean, number, string, array, object, Members}
 use Rattle.serde_json.specs.Find.{get_member, as_bool}

@@ -1,8 +1,10 @@
 -- The rules of a document.
-use Rattle.std.specs.Prelude.{cond, nat_lt, List, [], length, codes, Ok}
+use Rattle.std.specs.Prelude.{◌≡◌, ⊤, cond, nat_lt, List, [], ◌∷◌, length, codes, Ok}
+use Rattle.std.specs.declared.cmp.Ordering.TheVariants.{Less}
 use Rattle.serde_json.specs.Data.{Data}
 use Rattle.resh_value.specs.Limits.{text_limit}
-use Rattle.resh_value.specs.Lookup.{field_of}
+use Rattle.resh_value.specs.Lookup.{field_of, id_of}
+use Rattle.resh_value.specs.Order.{compare_of}
 use Rattle.resh_value.specs.Outcome.{in_err}
 use Rattle.resh_value.specs.FromJson.{walked_document}
 use Rattle.resh_value.specs.Text.{document_text}
@@ -20,3 +22,13 @@ with_rules document =
 
 abbrev pub document_in : List Document → Data → Read Document
 document_in before d = in_err (as_kind InValue) (walked_document d) >>= with_rules
+
+-- the `_id` of a document is below that of the next
+abbrev pub IsBelow : Document → List Document → Type 0
+IsBelow d [] = ⊤
+IsBelow d (next ∷ later) = compare_of (id_of d) (id_of next) ≡ Less
+
+-- each `_id` is below the next
+abbrev pub IdsRise : List Document → Type 0
+IdsRise [] = ⊤
+IdsRise (d ∷ later) = IsBelow d later × IdsRise later

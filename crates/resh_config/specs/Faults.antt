@@ -1,5 +1,5 @@
 -- What a walk through a cluster file finds, and the fault that is answered.
-use Rattle.std.specs.Prelude.{ℕ, List, [], ◌++◌, Result}
+use Rattle.std.specs.Prelude.{ℕ, List, [], ◌++◌}
 use Rattle.resh_value.specs.FromJson.{fault_at as value_fault_at}
 use Rattle.resh_value.specs.Walk.{Walked}
 use Rattle.resh_value.specs.declared.walk_fault.WalkFault.{WalkFault}

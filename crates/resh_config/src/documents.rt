@@ -1,23 +1,23 @@
 //! Documents, each with an `_id` that no other on its shard has.
 
-ghost use Rattle.std.specs.Prelude.{◌≡◌, ◌==◌, [], codes, length, IfOk};
-ghost use Rattle.resh_value.specs.Lookup.{field_of, value_under};
+ghost use Rattle.std.specs.Bool.{OnTrue};
+ghost use Rattle.std.specs.Prelude.{◌≡◌, ◌==◌, [], codes, IfOk};
+ghost use Rattle.resh_value.specs.Lookup.{field_of};
 ghost use Rattle.resh_value.specs.Order.{kind};
 ghost use Rattle.resh_value.specs.Outcome.{Gives};
-ghost use Rattle.resh_value.specs.Text.{document_text};
 ghost use Rattle.resh_setup.specs.Documents.{is_id, first_same};
-ghost use Rattle.resh_config.specs.Documents.{with_rules, document_in};
+ghost use Rattle.resh_config.specs.Documents.{with_rules, document_in, IdsRise, IsBelow};
 ghost use Rattle.resh_config.specs.ClusterFile.{documents_in, distinct_only};
 
 use crate::faults::{Fault, in_value, no_id, over_limit, same_id};
 use crate::lists::{ItemReader, list_in};
 use crate::walk::FieldReader;
 use resh_chunks::ChunkMap;
-use resh_value::{Document, Documents, NoMemory, Value, WalkFault};
+use resh_glance::{id_or, is_longer};
+use resh_value::{Document, Documents, NoMemory, Value, WalkFault, compare};
 use serde_json::Value as Json;
 use std::alloc::Global;
 use std::collections::BTreeSet;
-use std::mem::replace;
 
 /// So many documents there may be.
 const MOST_DOCUMENTS: u64 = 100_000;
@@ -36,7 +36,7 @@ impl FieldReader for Collection<'_> {
     ghost reads = { λ c. documents_in c.map.now };
 
     fn read(self, alloc: Global, json: &Json) -> Result<Documents, Fault> {
-        match list_in(alloc, &mut DocumentReader::new(alloc), MOST_DOCUMENTS, json) {
+        match list_in(alloc, &mut DocumentReader, MOST_DOCUMENTS, json) {
             Ok(documents) => distinct_only(alloc, self.map, documents),
             Err(fault) => Err(fault),
         }
@@ -61,12 +61,49 @@ fn first_same(
 ) -> Result<Option<u64>, NoMemory>
     ensures { IfOk result (λ row. row ≡ first_same map.now [] documents.now) }
 {
+    if ids_rise(documents) {
+        return Ok(None);
+    }
+    first_taken(alloc, map, documents)
+}
+
+/// Whether each `_id` is above the one before, so that no two are the same.
+fn ids_rise(documents: &[Document]) -> bool
+    ensures { OnTrue result (IdsRise documents.now) }
+{
+    let mut rest = documents;
+    while let [document, later @ ..] = rest {
+        if !is_below(document, later) {
+            return false;
+        }
+        rest = later;
+    }
+    true
+}
+
+fn is_below(document: &Document, later: &[Document]) -> bool
+    ensures { OnTrue result (IsBelow document.now later.now) }
+{
+    let null = Value::Null;
+    if let [next, ..] = later {
+        return compare(id_or(document, &null), id_or(next, &null)).is_lt();
+    }
+    true
+}
+
+fn first_taken(
+    alloc: Global,
+    map: &ChunkMap,
+    documents: &[Document],
+) -> Result<Option<u64>, NoMemory>
+    ensures { IfOk result (λ row. row ≡ first_same map.now [] documents.now) }
+{
     let null = Value::Null;
     let mut taken = BTreeSet::new(alloc);
     let mut row = 0u64;
     let mut rest = documents;
     while let [document, later @ ..] = rest {
-        let place = (map.owner_of(document).0, id_of(document, &null));
+        let place = (map.owner_of(document).0, id_or(document, &null));
         if !taken.insert(place)? {
             return Ok(Some(row));
         }
@@ -76,55 +113,20 @@ fn first_same(
     Ok(None)
 }
 
-fn id_of<'a>(document: &'a Document, null: &'a Value) -> &'a Value
-    requires { null.now ≡ Value.Null }
-    ensures { result.now ≡ value_under document.now (codes "_id") }
-{
-    match document.get_by("_id") {
-        Some(id) => id,
-        None => null,
-    }
-}
-
-/// Reads documents, and writes the text of each into the same buffer.
+/// Reads documents.
 #[derive(Drop)]
-struct DocumentReader {
-    text: Vec<u8>,
-}
+struct DocumentReader;
 
-impl DocumentReader {
-    fn new(alloc: Global) -> DocumentReader {
-        DocumentReader {
-            text: Vec::new(alloc),
-        }
+fn with_rules(alloc: Global, document: Document) -> Result<Document, Fault>
+    ensures { Gives WalkFault.NoMemory result (with_rules document) }
+{
+    if !has_id(&document) {
+        return Err(no_id(alloc));
     }
-
-    fn with_rules(&mut self, alloc: Global, document: Document) -> Result<Document, Fault>
-        ensures { Gives WalkFault.NoMemory result (with_rules document) }
-    {
-        if !has_id(&document) {
-            return Err(no_id(alloc));
-        }
-        match self.text_length(alloc, &document) {
-            Ok(length) => {
-                if length > LONGEST_TEXT {
-                    return Err(over_limit(alloc, LONGEST_TEXT));
-                }
-                Ok(document)
-            }
-            Err(NoMemory) => Err(WalkFault::NoMemory),
-        }
-    }
-
-    fn text_length(&mut self, alloc: Global, document: &Document) -> Result<u64, NoMemory>
-        ensures { IfOk result (λ n. n ≡ length (document_text document.now)) }
-    {
-        let mut text = replace(&mut self.text, Vec::new(alloc));
-        text.clear();
-        let text = document.append_text(text)?;
-        let length = text.len() as u64;
-        self.text = text;
-        Ok(length)
+    match is_longer(alloc, &document, LONGEST_TEXT) {
+        Ok(true) => Err(over_limit(alloc, LONGEST_TEXT)),
+        Ok(false) => Ok(document),
+        Err(NoMemory) => Err(WalkFault::NoMemory),
     }
 }
 
@@ -140,7 +142,7 @@ impl ItemReader for DocumentReader {
         json: &Json,
     ) -> Result<Document, Fault> {
         match Document::walk(alloc, json) {
-            Ok(document) => self.with_rules(alloc, document),
+            Ok(document) => with_rules(alloc, document),
             Err(fault) => Err(in_value(fault)),
         }
     }
@@ -156,7 +158,7 @@ impl FieldReader for Inserted {
     ghost reads = { λ _. document_in [] };
 
     fn read(self, alloc: Global, json: &Json) -> Result<Document, Fault> {
-        DocumentReader::new(alloc).read(alloc, &[], json)
+        DocumentReader.read(alloc, &[], json)
     }
 }
 

@@ -1,0 +1,9 @@
+//! What can be told of a document without writing it or searching it, where that is enough.
+#![tactic(auto)]
+
+mod id;
+mod length;
+mod room;
+
+pub use id::id_or;
+pub use length::is_longer;
