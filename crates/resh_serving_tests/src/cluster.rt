@@ -1,0 +1,248 @@
+//! Shards that one client asks through the router, command by command, with no copies, batches or messages.
+
+ghost use Rattle.std.specs.Prelude.{◌≡◌, true, IsTrue};
+ghost use Rattle.resh_router.specs.Merging.{are_counted, are_found, is_counted, is_found};
+ghost use Rattle.resh_shard.specs.Decisions.{IsAsked};
+ghost use Rattle.resh_shard.specs.Shards.{is_next};
+
+use resh_chunks::ChunkMap;
+use resh_router::{Target, merge_found, target};
+use resh_setup::{Holdings, Setup};
+use resh_shard::{Act, Command, Reply, Shard, TakeIn};
+use resh_stamp::Stamp;
+use resh_value::{Document, Documents, NoMemory, Sequence, ShardId};
+use std::alloc::Global;
+use std::test::Fail;
+
+/// A document's text may have so many bytes.
+const LONGEST_TEXT: u32 = 16_384;
+
+/// The shards of a setup, and the time of the last command.
+#[derive(Drop)]
+pub(crate) struct Cluster {
+    alloc: Global,
+    shards: Vec<Shard>,
+    time: u64,
+}
+
+/// The shards of a setup, each with its documents.
+pub(crate) fn opened(alloc: Global, setup: &Setup) -> Result<Cluster, Fail> {
+    let mut shards = Vec::new(alloc);
+    for number in 0..setup.old_map.shards() {
+        let old_map = setup.old_map.copy()?;
+        let new_map = setup.new_map.copy()?;
+        shards.push(Shard::new(alloc, ShardId(number), old_map, new_map, LONGEST_TEXT))?;
+    }
+    for document in setup.documents.as_slice() {
+        let owner = setup.old_map.owner_of(document).0 as usize;
+        load(shards.as_mut_slice(), owner, document.copy()?)?;
+    }
+    Ok(Cluster {
+        alloc,
+        shards,
+        time: 0,
+    })
+}
+
+fn load(shards: &mut [Shard], owner: usize, document: Document) -> Result<(), Fail> {
+    match shards.get_mut(owner) {
+        Some(shard) if document.is_whole() => Ok(shard.load(document)?),
+        _ => Err(Fail::from("no such document")),
+    }
+}
+
+impl Cluster {
+    /// The reply to a command by the map in force.
+    pub(crate) fn ask(&mut self, command: &Command) -> Result<Reply, Fail> {
+        self.time = self.time.wrapping_add(1);
+        if let Command::Abort = command {
+            return Err(Fail::from("an abort is no shard's command"));
+        }
+        match target(self.map()?, command) {
+            Target::NoKey => self.ask_one(0, command),
+            Target::One(shard) => self.ask_one(shard.0 as usize, command),
+            Target::All => self.ask_all(command),
+        }
+    }
+
+    fn map(&self) -> Result<&ChunkMap, Fail> {
+        match self.shards.get(0) {
+            Some(shard) => Ok(shard.map()),
+            None => Err(Fail::from("no shard")),
+        }
+    }
+
+    fn stamp(&self) -> Stamp {
+        Stamp {
+            time: self.time,
+            node: 0,
+        }
+    }
+
+    fn ask_one(&mut self, place: usize, command: &Command) -> Result<Reply, Fail> {
+        match self.act(place, command)? {
+            Act::Done(reply) => Ok(reply),
+            Act::Leaves { to, document } => self.move_to(place, to.0 as usize, document),
+            Act::Blocked => Err(Fail::from("writes are blocked")),
+        }
+    }
+
+    fn ask_all(&mut self, command: &Command) -> Result<Reply, Fail> {
+        let mut parts = Vec::new(self.alloc);
+        for place in 0..self.shards.len() {
+            let reply = self.ask_one(place, command)?;
+            parts.push((ShardId(place as u32), reply))?;
+        }
+        merged(self.alloc, parts)
+    }
+
+    fn act(&mut self, place: usize, command: &Command) -> Result<Act, Fail> {
+        let stamp = self.stamp();
+        match self.shards.get_mut(place) {
+            Some(shard) if may_ask(shard, command) && is_next(shard, stamp) => Ok(shard.act(
+                command, stamp,
+            )),
+            _ => Err(Fail::from("no shard that may be asked")),
+        }
+    }
+
+    /// Moves a document to another shard. It is taken in, taken back, and taken in again before it is taken out.
+    fn move_to(&mut self, place: usize, target: usize, document: Document) -> Result<Reply, Fail> {
+        let stamp = self.stamp();
+        let id = document.copy_id(self.alloc)?;
+        match self.shards.get_mut(target) {
+            None => return Err(Fail::from("no such shard")),
+            Some(shard) => {
+                if let TakeIn::Duplicate = take_in(shard, document.copy()?, stamp)? {
+                    return Ok(Reply::Duplicate);
+                }
+                if shard.log().len() == 0 {
+                    return Err(Fail::from("nothing was logged"));
+                }
+                shard.undo_in(&id);
+                take_in(shard, document, stamp)?;
+            }
+        }
+        match self.shards.get_mut(place) {
+            Some(shard) if is_next(shard, stamp) => shard.take_out(&id, stamp)?,
+            _ => return Err(Fail::from("no such shard")),
+        }
+        Ok(Reply::Matched { changed: true })
+    }
+
+    /// Puts the new map in force, and each document on its new owner.
+    pub(crate) fn switch(&mut self) -> Result<(), Fail> {
+        self.time = self.time.wrapping_add(1);
+        let stamp = self.stamp();
+        let mut parts = self.parts()?.into_vec();
+        for shard in self.shards.iter_mut().rev() {
+            match parts.pop() {
+                Some(part) if are_whole(part.as_slice()) => shard.install(part, stamp)?,
+                _ => return Err(Fail::from("no documents to install")),
+            }
+        }
+        Ok(())
+    }
+
+    /// The documents of each shard by the new map.
+    fn parts(&self) -> Result<Holdings, Fail> {
+        let mut parts = Vec::new(self.alloc);
+        for number in 0..self.shards.len() {
+            let owner = ShardId(number as u32);
+            let mut part = Vec::new(self.alloc);
+            for shard in self.shards.iter() {
+                for document in shard.versions().walk_now(None) {
+                    if shard.new_map().owner_of(document) == owner {
+                        part.push(document.copy()?)?;
+                    }
+                }
+            }
+            parts.push(Sequence::from_vec(part))?;
+        }
+        Ok(Sequence::from_vec(parts))
+    }
+
+    /// The documents that each shard holds.
+    pub(crate) fn holdings(&self) -> Result<Holdings, Fail> {
+        let mut holdings = Vec::new(self.alloc);
+        for shard in self.shards.iter() {
+            let mut held = Vec::new(self.alloc);
+            for document in shard.versions().walk_now(None) {
+                held.push(document.copy()?)?;
+            }
+            holdings.push(Sequence::from_vec(held))?;
+        }
+        Ok(Sequence::from_vec(holdings))
+    }
+}
+
+fn take_in(shard: &mut Shard, document: Document, stamp: Stamp) -> Result<TakeIn, Fail> {
+    if document.is_whole() && is_next(shard, stamp) {
+        return Ok(shard.take_in(document, stamp)?);
+    }
+    Err(Fail::from("nothing that may be taken in"))
+}
+
+fn are_whole(documents: &[Document]) -> bool {
+    documents.iter().all(|document| document.is_whole())
+}
+
+/// Whether the stamp is above those of the shard's entries.
+fn is_next(shard: &Shard, stamp: Stamp) -> bool
+    ensures { result ≡ is_next shard.now stamp }
+{
+    match shard.log().last_mark() {
+        None => true,
+        Some(mark) => mark.stamp < stamp,
+    }
+}
+
+/// Whether the shard may be asked: it owns an inserted document, which can be stored.
+fn may_ask(shard: &Shard, command: &Command) -> bool
+    ensures { IsTrue result → IsAsked shard.now command.now }
+{
+    match command {
+        Command::Insert(document) => document.is_whole()
+            && shard.map().owner_of(document).0 == shard.id().0,
+        Command::Abort => false,
+        _ => true,
+    }
+}
+
+/// The one reply of several.
+fn merged(alloc: Global, parts: Vec<(ShardId, Reply)>) -> Result<Reply, Fail> {
+    if parts.is_empty() || !(all_found(parts.as_slice()) || all_counted(parts.as_slice())) {
+        return Err(Fail::from("no replies of one kind"));
+    }
+    Ok(merge_found(alloc, parts)?)
+}
+
+fn all_found(parts: &[(ShardId, Reply)]) -> bool
+    ensures { result ≡ are_found parts.now }
+{
+    parts.iter().all(|(_, reply)| is_found(reply))
+}
+
+fn all_counted(parts: &[(ShardId, Reply)]) -> bool
+    ensures { result ≡ are_counted parts.now }
+{
+    parts.iter().all(|(_, reply)| is_counted(reply))
+}
+
+fn is_found(reply: &Reply) -> bool
+    ensures { result ≡ is_found reply.now }
+{
+    match reply {
+        Reply::Found { .. } => true,
+        _ => false,
+    }
+}
+
+fn is_counted(reply: &Reply) -> bool
+    ensures { result ≡ is_counted reply.now }
+{
+    match reply {
+        Reply::Counted { .. } => true,
+        _ => false,
+    }
+}

@@ -1,0 +1,7 @@
+//! What a router and shards give together, by example: replies and documents are those of the one collection.
+#![tactic(auto)]
+
+#[cfg(test)]
+mod cluster;
+#[cfg(test)]
+mod sequences;
