@@ -52,6 +52,14 @@ fn load(shards: &mut [Shard], owner: usize, document: Document) -> Result<(), Fa
 }
 
 impl Cluster {
+    /// The first shard alone.
+    pub(crate) fn into_first(self) -> Result<Shard, Fail> {
+        match self.shards.into_iter().next() {
+            Some(shard) => Ok(shard),
+            None => Err(Fail::from("no shard")),
+        }
+    }
+
     /// The reply to a command by the map in force.
     pub(crate) fn ask(&mut self, command: &Command) -> Result<Reply, Fail> {
         self.time = self.time.wrapping_add(1);
@@ -188,7 +196,7 @@ fn are_whole(documents: &[Document]) -> bool {
 }
 
 /// Whether the stamp is above those of the shard's entries.
-fn is_next(shard: &Shard, stamp: Stamp) -> bool
+pub(crate) fn is_next(shard: &Shard, stamp: Stamp) -> bool
     ensures { result ≡ is_next shard.now stamp }
 {
     match shard.log().last_mark() {
@@ -198,7 +206,7 @@ fn is_next(shard: &Shard, stamp: Stamp) -> bool
 }
 
 /// Whether the shard may be asked: it owns an inserted document, which can be stored.
-fn may_ask(shard: &Shard, command: &Command) -> bool
+pub(crate) fn may_ask(shard: &Shard, command: &Command) -> bool
     ensures { IsTrue result → IsAsked shard.now command.now }
 {
     match command {

@@ -19,7 +19,7 @@ const ONE: &str = r#"{"_id":1,"x":1,"y":1}"#;
 
 const TWO: &str = r#"{"_id":1,"x":1,"y":1},{"_id":1,"x":11,"y":11}"#;
 
-const MANY: &str =
+pub(crate) const MANY: &str =
     r#"{"_id":12,"x":1,"y":1},{"_id":11,"x":2,"y":11},{"_id":10,"x":3,"y":21},{"_id":9,"x":11,"y":1},{"_id":8,"x":12,"y":11},{"_id":7,"x":13,"y":21},{"_id":6,"x":21,"y":1},{"_id":5,"x":22,"y":11},{"_id":4,"x":23,"y":21},{"_id":3,"x":4,"y":2},{"_id":2,"x":14,"y":12},{"_id":1,"x":24,"y":22}"#;
 
 /// Documents, the commands of the one client, and the order in which they are asked and the switch comes.
@@ -226,7 +226,7 @@ struct Served {
     cluster: Cluster,
 }
 
-fn setup_of(alloc: Global, documents: &str, commands: &str) -> Result<Setup, Fail> {
+pub(crate) fn setup_of(alloc: Global, documents: &str, commands: &str) -> Result<Setup, Fail> {
     let file = format!(in alloc;
         "{HEAD}\"documents\":[{documents}],\"clients\":[{{\"name\":\"c1\",\"commands\":[{commands}]}}]}}"
     )?;
@@ -273,7 +273,7 @@ fn add<T: Drop>(list: &mut Sequence<T>, item: T) -> Result<(), NoMemory> {
     }
 }
 
-fn next_command(setup: &Setup, number: u64) -> Result<&Command, Fail> {
+pub(crate) fn next_command(setup: &Setup, number: u64) -> Result<&Command, Fail> {
     match setup.clients.get(0) {
         None => Err(Fail::from("no client")),
         Some(client) => match client.commands.get(number) {
