@@ -1,5 +1,5 @@
 -- What holds of what a shard does: against the collection, against slots, and of its log.
-use Rattle.std.specs.Prelude.{◌≡◌, ◌≢◌, ◌≤◌, ◌==◌, ℕ, Bool, true, false, cond, List, [], ◌∷◌, ◌++◌, length, map, filter, Option, Some, None}
+use Rattle.std.specs.Prelude.{◌≡◌, ◌≢◌, ◌≤◌, ◌==◌, ℕ, Bool, true, false, cond, List, [], ◌∷◌, ◌++◌, length, map, filter, Option, Some, None, is_some}
 use Rattle.std.specs.List.{range_with_len}
 use Rattle.resh_value.specs.Lookup.{id_of}
 use Rattle.resh_value.specs.Whole.{is_whole}
@@ -12,8 +12,11 @@ use Rattle.resh_oplog.specs.declared.entry.What.{What}
 use Rattle.resh_feed.specs.Effects.{effects_on}
 use Rattle.resh_versions.specs.Chains.{Document}
 use Rattle.resh_versions.specs.Standing.{IsFiled, now}
+use Rattle.resh_ops.specs.declared.operator.Action.{Action}
 use Rattle.resh_command.specs.declared.command.Command.{Command}
-use Rattle.resh_bag.specs.Answer.{Doing, replaces, bag_after, doing, text_limit}
+use Rattle.resh_command.specs.declared.command.Command.TheVariants.{Update}
+use Rattle.resh_command.specs.declared.reply.Reply.TheVariants.{Duplicate}
+use Rattle.resh_bag.specs.Answer.{Doing, replaces, says, bag_after, doing, text_limit}
 use Rattle.resh_bag.specs.Bag.{Bag, held}
 use Rattle.resh_bag.specs.Parts.{bag_over}
 use Rattle.resh_bag.specs.WholeLaws.{BringsWhole}
@@ -110,6 +113,16 @@ pub record MovesInHalves : Type 0 where
       → now from.versions (id_of before) ≡ Some before → now to.versions (id_of after) ≡ None
       → bag_of_both (taken_out stamp (id_of before) from) (taken_in stamp after to)
       ≡ bag_after (bag_of_both from to) (replaces (number_of from) before (number_of to) after)
+
+-- an update whose result belongs to another shard moves it there in the collection too, unless its `_id` is held there
+abbrev pub MovesAsCollection : Type 0
+MovesAsCollection = (from to : Shard) (f : Document) (update : List Action) (before after : Document)
+    → from.limit ≡ text_limit → IsFiled from.versions.chains → IsFiled to.versions.chains
+    → number_of from ≢ number_of to
+    → doing_on from (Update f update) ≡ replaces (number_of from) before (number_of to) after
+    → doing (map_of from) (bag_of_both from to) (Update f update)
+    ≡ cond (is_some (now to.versions (id_of after))) (says Duplicate)
+    (replaces (number_of from) before (number_of to) after)
 
 -- what is done on one shard leaves what the others hold
 abbrev pub LeavesOthers : Type 0

@@ -1,14 +1,15 @@
 //! Laws of shards, each a contract of a function that does nothing.
 
 ghost use Rattle.resh_shard.specs.Laws.{ChangesNothingElse, DoesAsCollection, EntriesHaveContents, HoldsAsCollection};
-ghost use Rattle.resh_shard.specs.Laws.{LeavesOthers, LogGrows, LogsItsEffect, MovesInHalves};
+ghost use Rattle.resh_shard.specs.Laws.{LeavesOthers, LogGrows, LogsItsEffect, MovesAsCollection, MovesInHalves};
 
-/// A command does to a shard what it does to the collection there, and leaves the other shards. The two halves of a
-/// move together are the collection's move.
+/// A command does to a shard what it does to the collection there, and leaves the other shards. A document that leaves
+/// one moves in the collection too, unless its `_id` is held where it comes, and the two halves together are that move.
 pub fn shard_laws()
     ensures does { DoesAsCollection }
     ensures holds { HoldsAsCollection }
     ensures others { LeavesOthers }
+    ensures moves { MovesAsCollection }
     ensures halves { MovesInHalves }
     ensures nothing_else { ChangesNothingElse }
 {}
