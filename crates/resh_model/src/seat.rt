@@ -8,6 +8,7 @@ ghost use Rattle.std.specs.Ordering.{as_partial_cmp, eq_by_cmp};
 ghost use Rattle.resh_model.specs.Seats.{target_cmp, seat_cmp, seat_total, sent_back, IsSeated, IsSeating, handed_out, IsFirstTie};
 
 use resh_chunks::ChunkMap;
+use resh_glance::id_or;
 use resh_setup::Holdings;
 use resh_value::{Document, Documents, NoMemory, Sequence, ShardId, Value, compare};
 use std::alloc::Global;
@@ -31,7 +32,10 @@ impl Seat {
             return shards;
         }
         let null = Value::Null;
-        compare(self.document.id_or(&null), other.document.id_or(&null))
+        compare(
+            id_or(&self.document, &null),
+            id_or(&other.document, &null),
+        )
     }
 }
 
