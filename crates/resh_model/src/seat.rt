@@ -32,10 +32,7 @@ impl Seat {
             return shards;
         }
         let null = Value::Null;
-        compare(
-            id_or(&self.document, &null),
-            id_or(&other.document, &null),
-        )
+        compare(id_or(&self.document, &null), id_or(&other.document, &null))
     }
 }
 
@@ -90,6 +87,8 @@ pub(crate) fn seats_of(
     ensures sorted { IfOk result (λ seats. IsSorted seat_cmp seats.items) }
 {
     let mut seats = unsorted_seats(alloc, from_map, to_map, documents)?;
+    // Documents that came by rising `_id` are in order once their shards are.
+    seats.sort_by_key(|seat| seat.shard.0)?;
     seats.sort()?;
     Ok(seats)
 }
