@@ -1,5 +1,5 @@
 -- The change from a document to another leads to it.
-use Rattle.std.proofs.Common.{◌≡◌, ℕ, Bool, true, false, cond, not, ◌||◌, ◌&&◌, List, [], ◌∷◌, ◌≤◌, length, drop, filter, Option, Some, None, is_none, refl, ap, sym, ◌∙◌, subst}
+use Rattle.std.proofs.Common.{◌≡◌, ℕ, Bool, true, false, cond, not, ◌||◌, ◌&&◌, List, [], ◌∷◌, ◌≤◌, length, drop, filter, Option, Some, None, is_none, is_some, refl, ap, sym, ◌∙◌, subst}
 use Rattle.std.proofs.Math.ListN.{drop_of_length-le}
 use Rattle.std.specs.declared.cmp.Ordering.TheVariants.{Less, Equal}
 use Rattle.std.specs.Ordering.{is_eq}
@@ -11,7 +11,7 @@ use Rattle.resh_value.specs.Order.{is_same}
 use Rattle.resh_value.specs.Names.{name_cmp, HasRisingNames}
 use Rattle.resh_value.specs.Lookup.{field_of}
 use Rattle.resh_value.specs.OrderLaws.{same_value}
-use Rattle.resh_value.specs.Change.{changed, changed_value, with_fields, are_apart, is_among}
+use Rattle.resh_value.specs.Change.{changed, changed_value, with_fields, are_apart, is_among, is_named}
 use Rattle.resh_value.specs.declared.value.Value.{Value}
 use Rattle.resh_value.proofs.Names.{same_from_equal, by_order}
 use Rattle.resh_value.proofs.FieldLaws.{field_of-below, same_fields}
@@ -93,7 +93,7 @@ by_value None (Some v) new lost a b c d = λ i. changed_value (b v i) (not (is_n
 by_value (Some old) (Some v) new lost a b c d = (λ i. changed_value (b v i) (not (is_none (d old i))) (Some old)) ∙ by_same old v (is_same old v) refl
 
 module _ (before after : Document) (s : HasRisingNames before) (t : HasRisingNames after) where
-  HasRisingNames-assigned : HasRisingNames (assigned before after)
+  pub HasRisingNames-assigned : HasRisingNames (assigned before after)
   HasRisingNames-assigned = HasRisingNames-filter (newer before) after t
 
   found_after : (q : List ℕ) → field_of (changed (assigned before after) (unset before after) before) q ≡ field_of after q
@@ -103,12 +103,28 @@ module _ (before after : Document) (s : HasRisingNames before) (t : HasRisingNam
       ∙ ap (λ b. changed_value (kept (newer before) q (field_of after q)) b (field_of before q)) (is_among-names (filter (gone after) before) q ∙ ap (λ o. not (is_none o)) (field_of-filter (gone after) before q s))
       ∙ by_value (field_of before q) (field_of after q) (kept (newer before) q) (kept (gone after) q) refl (λ v. refl) refl (λ v. refl)
 
-  leads_on : LeadsTo before after (assigned before after) (unset before after)
+  pub leads_on : LeadsTo before after (assigned before after) (unset before after)
   leads_on = record {
     made = same_fields (changed (assigned before after) (unset before after) before) after (HasRisingNames-changed (assigned before after) (unset before after) before s) t found_after;
     assigns = refl;
     unsets = refl;
   }
+
+-- a field that stays is new to neither test
+stays_unnamed : (o : Option Value) (new lost : Option Value → Option Value)
+    → new None ≡ None → ((v : Value) → new (Some v) ≡ cond (is_other o v) (Some v) None) → lost None ≡ None → ((v : Value) → lost (Some v) ≡ cond (is_none o) (Some v) None)
+    → (is_some (new o) || not (is_none (lost o))) ≡ false
+stays_unnamed None new lost a b c d = λ i. is_some (a i) || not (is_none (c i))
+stays_unnamed (Some v) new lost a b c d = (λ i. is_some (b v i) || not (is_none (d v i))) ∙ ap (λ same. is_some (cond (not same) (Some v) None) || false) ((same_value v v).1 refl)
+
+-- the change names no field that stays
+module _ (before after : Document) (s : HasRisingNames before) (t : HasRisingNames after) (name : List ℕ) (same : field_of after name ≡ field_of before name) where
+  unnamed_on : is_named (assigned before after) (unset before after) name ≡ false
+  unnamed_on =
+      ap (λ o. is_some o || is_among (unset before after) name) (field_of-filter (newer before) after name t)
+      ∙ ap (λ b. is_some (kept (newer before) name (field_of after name)) || b) (is_among-names (filter (gone after) before) name ∙ ap (λ o. not (is_none o)) (field_of-filter (gone after) before name s))
+      ∙ ap (λ o. is_some (kept (newer before) name o) || not (is_none (kept (gone after) name (field_of before name)))) same
+      ∙ stays_unnamed (field_of before name) (kept (newer before) name) (kept (gone after) name) refl (λ v. refl) refl (λ v. ap (λ o. cond (is_none o) (Some v) None) same)
 
 -- the tests leave no name in both
 names_step : (test : Field → Bool) (Q : List ℕ → Bool) (f : Field) (fs : Document) (b : Bool) → (b ≡ true → Q f.0 ≡ true) → list_all Q (keys_of (filter test fs)) ≡ true
@@ -132,6 +148,12 @@ apart_on before after t =
 module _ (before after assign : Document) (names : List (List ℕ)) (a : assign ≡ assigned before after) (u : names ≡ unset before after) where
   pub leads : HasRisingNames before → HasRisingNames after → LeadsTo before after assign names
   leads s t = rw (a, u) (leads_on before after s t)
+
+  pub unnamed : HasRisingNames before → HasRisingNames after → (name : List ℕ) → field_of after name ≡ field_of before name → is_named assign names name ≡ false
+  unnamed s t name same = rw (a, u) (unnamed_on before after s t name same)
+
+  pub rising : HasRisingNames after → HasRisingNames assign
+  rising t = rw (a) (HasRisingNames-filter (newer before) after t)
 
   pub apart : HasRisingNames after → are_apart assign names ≡ true
   apart t = rw (a, u) (apart_on before after t)

@@ -1,7 +1,7 @@
 pub mod ActionLaws
 pub mod Rising
 mod Answered
-mod Differences
+pub mod Differences
 mod NumberLaws
 pub mod PathLaws
 mod PathSteps

@@ -1,5 +1,5 @@
 -- An update leaves rising names.
-use Rattle.std.proofs.Common.{◌≡◌, ℕ, Bool, true, false, cond, List, [], ◌∷◌, unwrap_or, Result, Ok, Err, refl, sym, ap, subst, ◌∙◌}
+use Rattle.std.proofs.Common.{◌≡◌, ℕ, Bool, true, false, cond, List, [], ◌∷◌, unwrap_or, Result, Ok, Err, refl, subst}
 use Rattle.resh_value.specs.Lookup.{field_of}
 use Rattle.resh_value.specs.Names.{HasRisingNames}
 use Rattle.resh_value.specs.Outcome.{and_then}
@@ -8,7 +8,7 @@ use Rattle.resh_value.specs.declared.value.Value.TheVariants.{Doc}
 use Rattle.resh_value.proofs.FieldLaws.{HasRisingNames-with_field, HasRisingNames-without_field}
 use Rattle.resh_ops.specs.Operators.{does}
 use Rattle.resh_ops.specs.Paths.{Document, Path, dotted, embedded, erase, is_scalar, reach, write}
-use Rattle.resh_ops.specs.Updates.{acted, acted_all, done_at, moved_to, updated}
+use Rattle.resh_ops.specs.Updates.{acted, acted_all, done_at, updated}
 use Rattle.resh_ops.specs.declared.doing.Doing.{Doing}
 use Rattle.resh_ops.specs.declared.doing.Doing.TheVariants.{Keeps, Writes, Erases, Moves, Fails}
 use Rattle.resh_ops.specs.declared.faults.ChangeFault.{ChangeFault}

@@ -1,6 +1,8 @@
 //! What an update makes of a document, as a change.
 
-ghost use Rattle.std.specs.Prelude.{◌≡◌, ◌≢◌, IfOk, IfErr, Ok, Err};
+ghost use Rattle.std.specs.Prelude.{◌≡◌, ◌≢◌, IfOk, IfErr, Ok, Err, codes, false};
+ghost use Rattle.resh_value.specs.Change.{is_named};
+ghost use Rattle.resh_value.specs.Names.{HasRisingNames};
 ghost use Rattle.resh_value.specs.Outcome.{Gives};
 ghost use Rattle.resh_ops.specs.Changes.{LeadsTo};
 ghost use Rattle.resh_ops.specs.Paths.{Document as Fields, erase, is_scalar, reach};
@@ -20,7 +22,7 @@ const MOST_LEVELS: u32 = 32;
 
 impl Update {
     /// The change from a document to what the update makes of it. It assigns the top-level fields that are new or have
-    /// another value, and unsets those that are gone.
+    /// another value, and unsets those that are gone; `_id` is never among them.
     ///
     /// The fault is that of the first action that has one, else `TooLarge` where the result's text has more than
     /// `limit` bytes, else `TooDeep` where the result has more than 32 levels.
@@ -28,6 +30,8 @@ impl Update {
         ensures ok { IfOk result
             (λ change. (after : Fields) × (updated limit self.now document.now ≡ Ok after)
             × LeadsTo document.now after change.assign change.unset) }
+        ensures rising { IfOk result (λ change. HasRisingNames change.assign) }
+        ensures id { IfOk result (λ change. is_named change.assign change.unset (codes "_id") ≡ false) }
         ensures fault { IfErr result (λ f. f ≢ ChangeFault.NoMemory → updated limit self.now document.now ≡ Err f) }
     {
         let alloc = self.alloc();

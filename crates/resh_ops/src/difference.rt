@@ -1,7 +1,8 @@
 //! The change that leads from one document to another.
 
-ghost use Rattle.std.specs.Prelude.{◌≡◌, ◌++◌, [], ◌∷◌, IfOk, OnOk, cond, is_none};
+ghost use Rattle.std.specs.Prelude.{◌≡◌, ◌++◌, [], ◌∷◌, ℕ, List, IfOk, OnOk, cond, false, is_none};
 ghost use Rattle.std.specs.Option.{option_copied};
+ghost use Rattle.resh_value.specs.Change.{is_named};
 ghost use Rattle.resh_value.specs.Lookup.{field_of, with_field};
 ghost use Rattle.resh_value.specs.Names.{HasRisingNames};
 ghost use Rattle.resh_ops.specs.Changes.{LeadsTo, assigned, is_other, unset};
@@ -15,7 +16,10 @@ pub(crate) fn difference(
     before: &Document,
     after: &Document,
 ) -> Result<Change, NoMemory>
-    ensures { IfOk result (λ change. LeadsTo before.now after.now change.assign change.unset) }
+    ensures leads { IfOk result (λ change. LeadsTo before.now after.now change.assign change.unset) }
+    ensures rising { IfOk result (λ change. HasRisingNames change.assign) }
+    ensures named { IfOk result (λ change. (name : List ℕ) → field_of after.now name ≡ field_of before.now name
+        → is_named change.assign change.unset name ≡ false) }
 {
     let assign = assigned(alloc, before, after)?;
     let unset = unset(alloc, before, after)?;

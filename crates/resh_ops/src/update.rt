@@ -46,7 +46,8 @@ impl Update {
 
     /// The operators at their paths, in the order in which they are taken.
     pub fn actions(&self) -> &[Action]
-        ensures { result.now ≡ self.now }
+        ensures all { result.now ≡ self.now }
+        ensures update { IsUpdate self.now }
     {
         self.actions.as_slice()
     }

@@ -3,7 +3,6 @@ pub mod Effects
 pub mod Following
 pub mod Found
 pub mod Held
-pub mod Leading
 pub mod Logged
 pub mod Moved
 pub mod Turned

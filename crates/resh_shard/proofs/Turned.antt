@@ -12,7 +12,7 @@ use Rattle.resh_ops.specs.Changes.{assigned, unset}
 use Rattle.resh_versions.specs.Chains.{Document}
 use Rattle.resh_shard.specs.Decisions.{names_one}
 use Rattle.resh_shard.specs.Differences.{change_between}
-use Rattle.resh_shard.proofs.Leading.{HasRisingNames-assigned, leads_on}
+use Rattle.resh_ops.proofs.Differences.{HasRisingNames-assigned, leads_on}
 
 pub neither : (a b : Bool) → (a || b) ≡ false → (a ≡ false) × (b ≡ false)
 neither false b h = (refl, h)

@@ -157,9 +157,6 @@ fn changed(
     let change = update.change(document, limit)?;
     let mut after = document.copy()?;
     after.apply_change(&change)?;
-    if change.names_id() {
-        return Err(ChangeFault::NoMemory);
-    }
     Ok((change, after))
 }
 
