@@ -6,9 +6,9 @@ ghost use Rattle.resh_report.specs.Replies.{answers_lines, client_lines, replies
 
 use crate::refusals::append_at_path;
 use crate::text::{append, append_client_name, append_line, append_line_feed, append_number};
+use resh_command::{Replies, Reply};
 use resh_ops::ChangeFault;
 use resh_setup::Client;
-use resh_command::{Replies, Reply};
 use resh_value::{Document, NoMemory};
 
 /// Writes each client's name and its replies.
