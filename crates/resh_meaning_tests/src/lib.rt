@@ -1,0 +1,7 @@
+//! What orders of turns come to, by example.
+#![tactic(auto)]
+
+#[cfg(test)]
+mod cases;
+#[cfg(test)]
+mod orders;
