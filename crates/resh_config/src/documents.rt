@@ -13,7 +13,7 @@ use crate::faults::{Fault, in_value, no_id, over_limit, same_id};
 use crate::lists::{ItemReader, list_in};
 use crate::walk::FieldReader;
 use resh_chunks::ChunkMap;
-use resh_glance::{id_or, is_longer};
+use resh_glance::{id, id_or, is_longer};
 use resh_value::{Document, Documents, NoMemory, Value, WalkFault, compare};
 use serde_json::Value as Json;
 use std::alloc::Global;
@@ -165,7 +165,7 @@ impl FieldReader for Inserted {
 fn has_id(document: &Document) -> bool
     ensures { result ≡ is_id (field_of document.now (codes "_id")) }
 {
-    match document.get_by("_id") {
+    match id(document) {
         Some(id) => !is_array(id),
         None => false,
     }
