@@ -59,7 +59,7 @@ fn append_node(out: Vec<u8>, shards: &[Words], node: Node) -> Result<Vec<u8>, No
     }
 }
 
-fn why_text(why: Why) -> &'static str
+pub(crate) fn why_text(why: Why) -> &'static str
     ensures { result.now ≡ why_text why }
 {
     match why {

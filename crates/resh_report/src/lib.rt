@@ -1,12 +1,14 @@
-//! The page of a run, and the texts of refusals.
+//! The page of a run, the lines of its steps, and the texts of refusals.
 #![tactic(auto)]
 
 mod ends;
 mod pages;
 mod refusals;
 mod replies;
+mod step_lines;
 mod text;
 mod turns;
 
 pub use pages::page;
 pub use refusals::refusal;
+pub use step_lines::line;
