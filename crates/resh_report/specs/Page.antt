@@ -50,8 +50,20 @@ holdings_lines shards place [] = []
 holdings_lines shards place (held ∷ more) =
     shard_lines (name_at shards place) held ++ holdings_lines shards (place + 1) more
 
+-- the page from the order on
+abbrev pub run_text : List (List ℕ) → List (List ℕ) → List Turn → End → List (List Reply)
+    → List (List (List (List ℕ × Value))) → List ℕ
+run_text shards clients order end answers holdings =
+    line (codes "order") ++ turn_lines clients [] order ++ answers_lines clients 0 answers
+    ++ holdings_lines shards 0 holdings ++ end_line shards clients end
+
 abbrev pub page_text : List (List ℕ) → List (List ℕ) → List Turn → End → List (List Reply)
     → List (List (List (List ℕ × Value))) → List ℕ
 page_text shards clients order end answers holdings =
-    line (codes "steps") ++ line (codes "order") ++ turn_lines clients [] order
-    ++ answers_lines clients 0 answers ++ holdings_lines shards 0 holdings ++ end_line shards clients end
+    line (codes "steps") ++ run_text shards clients order end answers holdings
+
+-- the page with the lines of a file's steps
+abbrev pub page_with_lines_text : List (List ℕ) → List (List ℕ) → List (List ℕ) → List Turn → End
+    → List (List Reply) → List (List (List (List ℕ × Value))) → List ℕ
+page_with_lines_text lines shards clients order end answers holdings =
+    line (codes "steps") ++ flat_map line lines ++ run_text shards clients order end answers holdings

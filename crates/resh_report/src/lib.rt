@@ -9,6 +9,6 @@ mod step_lines;
 mod text;
 mod turns;
 
-pub use pages::page;
+pub use pages::{Lines, page, page_with_lines};
 pub use refusals::refusal;
 pub use step_lines::line;

@@ -53,10 +53,17 @@ fn step_words(
         Event::Clone { recipient, donor } => link_words(alloc, shards, "clone", recipient, donor),
         Event::Fetch { recipient, donor } => link_words(alloc, shards, "fetch", recipient, donor),
         Event::Cut { recipient, donor } => link_words(alloc, shards, "cut", recipient, donor),
-        Event::Apply { recipient, donor, lane } => {
-            lane_words(alloc, shards, "apply", (recipient, donor), lane)
-        }
-        Event::Again { recipient, donor, lane, position } => {
+        Event::Apply {
+            recipient,
+            donor,
+            lane,
+        } => { lane_words(alloc, shards, "apply", (recipient, donor), lane) }
+        Event::Again {
+            recipient,
+            donor,
+            lane,
+            position,
+        } => {
             let words = lane_words(alloc, shards, "again", (recipient, donor), lane)?;
             Ok(format!(in alloc; "{words} {position}")?)
         }
@@ -87,12 +94,22 @@ fn seen_text(alloc: Global, shards: &[Words], seen: &Seen) -> Result<String, NoM
         Seen::Got { count } => Ok(format!(in alloc; "got {count}")?),
         Seen::GotFinal { count } => Ok(format!(in alloc; "got {count}, final")?),
         Seen::Batch { from, to } => batch_text(alloc, *from, *to),
-        Seen::Applied { write, rule, place, stash } => {
+        Seen::Applied {
+            write,
+            rule,
+            place,
+            stash,
+        } => {
             let write = write_text(*write);
             let met = format!(in alloc; "{write} rule {rule}")?;
             applied_text(alloc, met.as_str(), *place, *stash)
         }
-        Seen::Took { write, donor, place, stash } => {
+        Seen::Took {
+            write,
+            donor,
+            place,
+            stash,
+        } => {
             let (write, donor) = (write_text(*write), shard_name(shards, *donor));
             let met = format!(in alloc; "{write} rule 4 took {donor}")?;
             applied_text(alloc, met.as_str(), *place, *stash)
