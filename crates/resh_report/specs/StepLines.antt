@@ -92,6 +92,16 @@ fixed_text seen.Failed = codes "failed"
 fixed_text seen.NoMemory = codes "no memory"
 fixed_text _ = []
 
+-- what a lane showed of a piece
+abbrev pub piece_text : List (List ℕ) → Seen → List ℕ
+piece_text shards (seen.Applied write rule place stash) =
+    write_text write ++ codes " rule " ++ decimal rule ++ applied_at place stash
+piece_text shards (seen.Took write donor place stash) =
+    write_text write ++ codes " rule 4 took " ++ name_at shards donor.0 ++ applied_at place stash
+piece_text shards (seen.Repeated at) = codes "repeated, at " ++ decimal at
+piece_text shards (seen.Ahead at) = codes "ahead, at " ++ decimal at
+piece_text shards other = fixed_text other
+
 -- what an event showed
 abbrev pub seen_text : List (List ℕ) → Seen → List ℕ
 seen_text shards (seen.Command number) = codes "command " ++ decimal number
@@ -101,12 +111,6 @@ seen_text shards (seen.GotMore count) = codes "got " ++ decimal count ++ codes "
 seen_text shards (seen.Got count) = codes "got " ++ decimal count
 seen_text shards (seen.GotFinal count) = codes "got " ++ decimal count ++ codes ", final"
 seen_text shards (seen.Batch from to) = codes "batch " ++ decimal from ++ codes " to " ++ decimal to
-seen_text shards (seen.Applied write rule place stash) =
-    write_text write ++ codes " rule " ++ decimal rule ++ applied_at place stash
-seen_text shards (seen.Took write donor place stash) =
-    write_text write ++ codes " rule 4 took " ++ name_at shards donor.0 ++ applied_at place stash
-seen_text shards (seen.Repeated at) = codes "repeated, at " ++ decimal at
-seen_text shards (seen.Ahead at) = codes "ahead, at " ++ decimal at
 seen_text shards (seen.Kept place) = codes "place " ++ decimal place
 seen_text shards (seen.KeptLast place) = codes "place " ++ decimal place ++ codes ", finished"
 seen_text shards (seen.Back place) = codes "back to place " ++ decimal place
@@ -115,7 +119,7 @@ seen_text shards (seen.Fails node cause late) =
     codes "fail " ++ node_text shards node ++ codes " " ++ why_text cause ++ late_mark late
 seen_text shards (seen.FailsForMemory recipient late) =
     codes "fail " ++ name_at shards recipient.0 ++ codes " no memory" ++ late_mark late
-seen_text shards other = fixed_text other
+seen_text shards other = piece_text shards other
 
 -- the line of one event of the step of this number, without its line feed
 abbrev pub step_line : List (List ℕ) → List (List ℕ) → ℕ → Event → Seen → List ℕ

@@ -3,7 +3,7 @@
 ghost use Rattle.std.specs.Prelude.{◌≡◌, ◌++◌, codes, decimal, string_bytes, IfOk};
 ghost use Rattle.resh_report.specs.Ends.{node_text};
 ghost use Rattle.resh_report.specs.Lines.{name_at, names_of};
-ghost use Rattle.resh_report.specs.StepLines.{after_words, applied_at, fixed_text, lane_words, late_mark, link_words, message_text, seen_text, step_line, step_words, write_text};
+ghost use Rattle.resh_report.specs.StepLines.{after_words, applied_at, fixed_text, lane_words, late_mark, link_words, message_text, piece_text, seen_text, step_line, step_words, write_text};
 
 use crate::ends::why_text;
 use resh_coord::Node;
@@ -38,17 +38,13 @@ fn step_words(
     clients: &[Client],
     event: &Event,
 ) -> Result<String, NoMemory>
-    ensures { IfOk result (λ words.
-        string_bytes words ≡ step_words shards.now (names_of clients.now) event.now) }
+    ensures { IfOk result (λ words. string_bytes words ≡ step_words shards.now (names_of clients.now) event.now) }
 {
     match *event {
         Event::Client { client } => with_name(alloc, "client", client_name(clients, client)),
         Event::Begin => text(alloc, "begin"),
         Event::Tell { shard } => with_name(alloc, "tell", shard_name(shards, shard)),
-        Event::Retell { shard, message } => {
-            let words = with_name(alloc, "retell", shard_name(shards, shard))?;
-            with_name(alloc, words.as_str(), message_text(message))
-        }
+        Event::Retell { shard, message } => retell_words(alloc, shard_name(shards, shard), message),
         Event::Advance => text(alloc, "advance"),
         Event::Clone { recipient, donor } => link_words(alloc, shards, "clone", recipient, donor),
         Event::Fetch { recipient, donor } => link_words(alloc, shards, "fetch", recipient, donor),
@@ -94,6 +90,25 @@ fn seen_text(alloc: Global, shards: &[Words], seen: &Seen) -> Result<String, NoM
         Seen::Got { count } => Ok(format!(in alloc; "got {count}")?),
         Seen::GotFinal { count } => Ok(format!(in alloc; "got {count}, final")?),
         Seen::Batch { from, to } => batch_text(alloc, *from, *to),
+        Seen::Kept { place } => Ok(format!(in alloc; "place {place}")?),
+        Seen::KeptLast { place } => Ok(format!(in alloc; "place {place}, finished")?),
+        Seen::Back { place } => Ok(format!(in alloc; "back to place {place}")?),
+        Seen::Clash { id } => with_name(alloc, "clash", id.text(alloc)?.as_str()),
+        Seen::Fails { node, cause, late } => {
+            fail_text(alloc, node_name(shards, *node), why_text(*cause), *late)
+        }
+        Seen::FailsForMemory { recipient, late } => {
+            fail_text(alloc, shard_name(shards, *recipient), "no memory", *late)
+        }
+        _ => piece_text(alloc, shards, seen),
+    }
+}
+
+/// What a lane showed of a piece, or a text without numbers.
+fn piece_text(alloc: Global, shards: &[Words], seen: &Seen) -> Result<String, NoMemory>
+    ensures { IfOk result (λ text. string_bytes text ≡ piece_text shards.now seen.now) }
+{
+    match seen {
         Seen::Applied {
             write,
             rule,
@@ -116,16 +131,6 @@ fn seen_text(alloc: Global, shards: &[Words], seen: &Seen) -> Result<String, NoM
         }
         Seen::Repeated { at } => Ok(format!(in alloc; "repeated, at {at}")?),
         Seen::Ahead { at } => Ok(format!(in alloc; "ahead, at {at}")?),
-        Seen::Kept { place } => Ok(format!(in alloc; "place {place}")?),
-        Seen::KeptLast { place } => Ok(format!(in alloc; "place {place}, finished")?),
-        Seen::Back { place } => Ok(format!(in alloc; "back to place {place}")?),
-        Seen::Clash { id } => with_name(alloc, "clash", id.text(alloc)?.as_str()),
-        Seen::Fails { node, cause, late } => {
-            fail_text(alloc, node_name(shards, *node), why_text(*cause), *late)
-        }
-        Seen::FailsForMemory { recipient, late } => {
-            fail_text(alloc, shard_name(shards, *recipient), "no memory", *late)
-        }
         _ => text(alloc, fixed_text(seen)),
     }
 }
@@ -186,6 +191,14 @@ fn late_mark(late: bool) -> &'static str
     ensures { result.now ≡ late_mark late }
 {
     if late { ": too late" } else { "" }
+}
+
+fn retell_words(alloc: Global, shard: &str, message: MessageKind) -> Result<String, NoMemory>
+    ensures { IfOk result (λ words.
+        string_bytes words ≡ codes "retell " ++ shard.now ++ codes " " ++ message_text message) }
+{
+    let message = message_text(message);
+    Ok(format!(in alloc; "retell {shard} {message}")?)
 }
 
 fn link_words(
