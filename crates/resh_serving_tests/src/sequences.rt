@@ -12,15 +12,19 @@ use std::alloc::Global;
 use std::test::Fail;
 
 /// Three shards; the documents go by `x` under the old map and by `y` under the new one.
-const HEAD: &str =
-    r#"{"version":1,"shards":["a","b","c"],"oldKey":["x"],"newKey":["y"],"lanes":1,"oldChunks":[{"min":"MinKey","max":[10],"shard":"a"},{"min":[10],"max":[20],"shard":"b"},{"min":[20],"max":"MaxKey","shard":"c"}],"newChunks":[{"min":"MinKey","max":[10],"shard":"a"},{"min":[10],"max":[20],"shard":"b"},{"min":[20],"max":"MaxKey","shard":"c"}],"#;
+const HEAD: &str = r#"{"version":1,"shards":["a","b","c"],"oldKey":["x"],"newKey":["y"],
+        "lanes":1,"oldChunks":[{"min":"MinKey","max":[10],"shard":"a"},{"min":[10],"max":[20],"shard":"b"},
+        {"min":[20],"max":"MaxKey","shard":"c"}],"newChunks":[{"min":"MinKey","max":[10],"shard":"a"},
+        {"min":[10],"max":[20],"shard":"b"},{"min":[20],"max":"MaxKey","shard":"c"}],"#;
 
 const ONE: &str = r#"{"_id":1,"x":1,"y":1}"#;
 
 const TWO: &str = r#"{"_id":1,"x":1,"y":1},{"_id":1,"x":11,"y":11}"#;
 
 pub(crate) const MANY: &str =
-    r#"{"_id":12,"x":1,"y":1},{"_id":11,"x":2,"y":11},{"_id":10,"x":3,"y":21},{"_id":9,"x":11,"y":1},{"_id":8,"x":12,"y":11},{"_id":7,"x":13,"y":21},{"_id":6,"x":21,"y":1},{"_id":5,"x":22,"y":11},{"_id":4,"x":23,"y":21},{"_id":3,"x":4,"y":2},{"_id":2,"x":14,"y":12},{"_id":1,"x":24,"y":22}"#;
+    r#"{"_id":12,"x":1,"y":1},{"_id":11,"x":2,"y":11},{"_id":10,"x":3,"y":21},{"_id":9,"x":11,"y":1},
+        {"_id":8,"x":12,"y":11},{"_id":7,"x":13,"y":21},{"_id":6,"x":21,"y":1},{"_id":5,"x":22,"y":11},
+        {"_id":4,"x":23,"y":21},{"_id":3,"x":4,"y":2},{"_id":2,"x":14,"y":12},{"_id":1,"x":24,"y":22}"#;
 
 /// Documents, the commands of the one client, and the order in which they are asked and the switch comes.
 const SEQUENCES: [(&str, &str, &str); 44] = [
@@ -102,7 +106,8 @@ const SEQUENCES: [(&str, &str, &str); 44] = [
     ),
     (
         ONE,
-        r#"{"update":{"_id":1,"x":1},"with":{"$push":{"l":1}}},{"update":{"_id":1,"x":1,"l":[1]},"with":{"$pop":{"l":1}}}"#,
+        r#"{"update":{"_id":1,"x":1},"with":{"$push":{"l":1}}},{"update":{"_id":1,"x":1,"l":[1]},
+            "with":{"$pop":{"l":1}}}"#,
         "ask ask switch",
     ),
     // updates that are refused, and that find nothing
@@ -149,17 +154,20 @@ const SEQUENCES: [(&str, &str, &str); 44] = [
     ),
     (
         r#"{"_id":1,"x":25,"y":1}"#,
-        r#"{"update":{"_id":1,"x":25},"with":{"$set":{"x":5,"n":1}}},{"update":{"_id":1,"x":5},"with":{"$inc":{"x":10}}},{"find":{"n":1}}"#,
+        r#"{"update":{"_id":1,"x":25},"with":{"$set":{"x":5,"n":1}}},{"update":{"_id":1,"x":5},
+            "with":{"$inc":{"x":10}}},{"find":{"n":1}}"#,
         "ask ask ask switch",
     ),
     (
         ONE,
-        r#"{"update":{"_id":1,"x":1},"with":{"$set":{"x":11,"y":29}}},{"update":{"_id":1,"y":29},"with":{"$set":{"y":15}}}"#,
+        r#"{"update":{"_id":1,"x":1},"with":{"$set":{"x":11,"y":29}}},{"update":{"_id":1,"y":29},
+            "with":{"$set":{"y":15}}}"#,
         "ask switch ask",
     ),
     (
         ONE,
-        r#"{"update":{"_id":1,"x":1},"with":{"$rename":{"x":"z"}}},{"update":{"_id":1,"x":null},"with":{"$rename":{"z":"x"}}}"#,
+        r#"{"update":{"_id":1,"x":1},"with":{"$rename":{"x":"z"}}},{"update":{"_id":1,"x":null},
+            "with":{"$rename":{"z":"x"}}}"#,
         "ask ask switch",
     ),
     // after the switch: the new key is asked for, moves go by it, the old one names nothing
@@ -170,7 +178,8 @@ const SEQUENCES: [(&str, &str, &str); 44] = [
     ),
     (
         TWO,
-        r#"{"update":{"_id":1,"y":1},"with":{"$set":{"y":12}}},{"update":{"_id":1,"y":1},"with":{"$set":{"y":22}}},{"find":{}}"#,
+        r#"{"update":{"_id":1,"y":1},"with":{"$set":{"y":12}}},{"update":{"_id":1,"y":1},
+            "with":{"$set":{"y":22}}},{"find":{}}"#,
         "switch ask ask ask",
     ),
     (
@@ -213,7 +222,9 @@ const SEQUENCES: [(&str, &str, &str); 44] = [
     // deletes and inserts of one document in turn
     (
         ONE,
-        r#"{"delete":{"_id":1,"x":1,"y":1}},{"insert":{"_id":1,"x":1,"y":1,"n":1}},{"delete":{"_id":1,"x":1,"y":1}},{"insert":{"_id":1,"x":1,"y":1,"n":2}},{"delete":{"_id":1,"x":1,"y":1}},{"insert":{"_id":1,"x":1,"y":1,"n":3}}"#,
+        r#"{"delete":{"_id":1,"x":1,"y":1}},{"insert":{"_id":1,"x":1,"y":1,"n":1}},
+            {"delete":{"_id":1,"x":1,"y":1}},{"insert":{"_id":1,"x":1,"y":1,"n":2}},
+            {"delete":{"_id":1,"x":1,"y":1}},{"insert":{"_id":1,"x":1,"y":1,"n":3}}"#,
         "ask ask ask ask switch ask ask",
     ),
 ];
