@@ -91,7 +91,8 @@ impl Mailbox {
     /// Puts a piece behind the others. It comes back only if the mailbox was full at a moment of the call.
     pub fn send<R: Wait>(&self, rt: &R, pass: &mut SendPass, piece: Piece) -> Sending
         requires { pass.old.mailbox ≡ self.now.name }
-        ensures { Sends self.now.capacity pass.old piece result pass.new }
+        ensures answer { Sends self.now.capacity pass.old piece result pass.new }
+        ensures mailbox { pass.new.mailbox ≡ pass.old.mailbox }
     {
         let Err(back) = self.queue.push_as::<SendStep, R>(rt, &mut pass.pass, piece) else {
             return Sending::Sent;
@@ -102,7 +103,8 @@ impl Mailbox {
     /// Takes the oldest piece. There is none only if the mailbox was empty at a moment of the call.
     pub fn receive<R: Wait>(&self, rt: &R, pass: &mut ReceivePass) -> Option<Piece>
         requires { pass.old.mailbox ≡ self.now.name }
-        ensures { Receives pass.old result pass.new }
+        ensures answer { Receives pass.old result pass.new }
+        ensures mailbox { pass.new.mailbox ≡ pass.old.mailbox }
     {
         self.queue.pop_as::<ReceiveStep, R>(rt, &mut pass.pass)
     }
