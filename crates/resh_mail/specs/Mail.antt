@@ -11,12 +11,12 @@ use Rattle.resh_mail.specs.declared.rule.Known.{Known}
 pub use Rattle.resh_mail.specs.Rule.{IsFront, AlongOneList}
 
 -- which mailbox it is, and for how many pieces it has room
-pub record Box : Type 0 where
+pub record MailboxOf : Type 0 where
   pub name : TableId
   pub capacity : ℕ
 
-abbrev pub box_code : Coded Box
-box_code =
+abbrev pub mailbox_code : Coded MailboxOf
+mailbox_code =
     code_by (TableId × ℕ) (coded× table_id_coded coded_ℕ)
     (λ b. (b.name, b.capacity)) (λ p. record { name = p.0; capacity = p.1 }) (λ _. refl)
 

@@ -19,11 +19,11 @@ pub struct Mailbox {
 
 impl Model for Mailbox {
     ghost use Rattle.crossbeam_queue.specs.Passes.{ruled_capacity};
-    ghost use Rattle.resh_mail.specs.Mail.{Box, box_code};
+    ghost use Rattle.resh_mail.specs.Mail.{MailboxOf, mailbox_code};
 
-    ghost Value = { Box };
+    ghost Value = { MailboxOf };
 
-    ghost coded = { box_code };
+    ghost coded = { mailbox_code };
 
     ghost view = { λ m. record { name = m.queue.table.shared.table_id; capacity = ruled_capacity m.queue } };
 }
