@@ -97,9 +97,9 @@ impl Cluster {
 
     fn ask_all(&mut self, command: &Command) -> Result<Reply, Fail> {
         let mut parts = Vec::new(self.alloc);
-        for place in 0..self.shards.len() {
-            let reply = self.ask_one(place, command)?;
-            parts.push((ShardId(place as u32), reply))?;
+        for number in 0..self.map()?.shards() {
+            let reply = self.ask_one(number as usize, command)?;
+            parts.push((ShardId(number), reply))?;
         }
         merged(self.alloc, parts)
     }
@@ -155,8 +155,8 @@ impl Cluster {
     /// The documents of each shard by the new map.
     fn parts(&self) -> Result<Holdings, Fail> {
         let mut parts = Vec::new(self.alloc);
-        for number in 0..self.shards.len() {
-            let owner = ShardId(number as u32);
+        for number in 0..self.map()?.shards() {
+            let owner = ShardId(number);
             let mut part = Vec::new(self.alloc);
             for shard in self.shards.iter() {
                 for document in shard.versions().walk_now(None) {
