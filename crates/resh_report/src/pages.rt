@@ -118,8 +118,12 @@ fn append_documents(out: Vec<u8>, documents: &[Document]) -> Result<Vec<u8>, NoM
     ensures { IfOk result (λ bytes. bytes.items ≡ out.items ++ flat_map document_line documents.now) }
 {
     let mut out = out;
+    let mut text = Vec::new(*out.allocator());
     for document in documents {
-        out = append_line_feed(document.append_text(out)?)?;
+        text.clear();
+        text = document.append_text(text)?;
+        out.extend_from_slice(text.as_slice())?;
+        out.push(b'\n')?;
     }
     Ok(out)
 }
