@@ -106,7 +106,7 @@ module _ {S T G : Type 0} (start : S → G) (journal : S → List (Made T)) wher
   all_set F views seat w mine others j u e = ⊎_elim (λ (x : (j ≡ seat) × (w ≡ u)). subst (λ (y : ℕ × V). F y.0 y.1) (λ i. (sym x.0 i, x.1 i)) mine)
       (λ (x : (j ≢ seat) × (get_elem? views j ≡ some u)). others j u x.0 x.1) (at_set views seat j w u e)
 
-  pub begins : (x : S) (passes : ℕ) → 0 < passes → journal x ≡ [] → Kept start journal (start x) passes (opening (0 ∷ []) (Some x ∷ []) (opened (start x)))
+  begins : (x : S) (passes : ℕ) → 0 < passes → journal x ≡ [] → Kept start journal (start x) passes (opening (0 ∷ []) (Some x ∷ []) (opened (start x)))
   begins x passes room fresh = let v : V = opened (start x) in record {
     log = [];
     holder = 0;
@@ -119,6 +119,11 @@ module _ {S T G : Type 0} (start : S → G) (journal : S → List (Made T)) wher
     below = tt;
     few = room;
   }
+
+  pub begins_at : (x y : S) (passes : ℕ) (items : List (Option S)) → items ≡ Some x ∷ [] → y ≡ x → 0 < passes → journal x ≡ []
+      → Kept start journal (start y) passes (opening (0 ∷ []) items (opened (start y)))
+  begins_at x y passes items is same room fresh =
+      subst (λ (z : List (Option S) × S). Kept start journal (start z.1) passes (opening (0 ∷ []) z.0 (opened (start z.1)))) (λ i. (sym is i, sym same i)) (begins x passes room fresh)
 
   -- what a step owes where the words and the homes are these
   abbrev Owes : G → ℕ → List V → ℕ → Me (Option S) V → (ℕ → ℕ) → (ℕ → Me (Option S) V → Type 0) → List ℕ → List (Maybe (Option S)) → Type 0
@@ -337,7 +342,7 @@ module _ {S T G : Type 0} (start : S → G) (journal : S → List (Made T)) wher
         fits = keep (Fits start journal begun s.words k.log k.holder) (k.fits seat v at live) k.fits;
         makes = keep (Makes start journal k.count) (k.makes seat v at live) k.makes;
         gathered = keep (λ j u. Each (IsGathered views k.log) u.gathered)
-            (each_append _ v.gathered (w.known ∷ []) (every _ _ still v.gathered (k.gathered seat v at live)) (taken, tt))
+            (taken, every _ _ still v.gathered (k.gathered seat v at live))
             (λ j u e alive. every _ _ still u.gathered (k.gathered j u e alive));
         below = k.below;
         few = k.few;

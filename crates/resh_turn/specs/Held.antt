@@ -1,5 +1,5 @@
 -- What contracts see of a cell and of a hold.
-use Rattle.std.specs.Prelude.{◌≡◌, ℕ, true, List, [], ◌∷◌, Option, Some, None, refl}
+use Rattle.std.specs.Prelude.{◌≡◌, ℕ, zero, suc, true, List, [], ◌∷◌, Option, Some, None, refl}
 use Rattle.std.specs.Coded.{Coded, code_by, coded×, coded_ℕ}
 use Rattle.atomic_table.specs.Seated.{TableId, table_id_coded}
 use Rattle.atomic_table.specs.Table.{Me}
@@ -46,3 +46,12 @@ given_back start journal hold = record {
   seen = journal hold.story;
   own = own_of hold.number (journal hold.story);
 }
+
+-- a pass of a cell that has seen and done nothing yet
+abbrev pub unused : {T G : Type 0} → Cell G → ℕ → Sight T G
+unused cell number = record { cell = cell.cell; begun = Some cell.start; number = number; seen = []; own = [] }
+
+-- so many passes, by number, from this number on
+abbrev pub numbered : {T G : Type 0} → Cell G → ℕ → ℕ → List (Sight T G)
+numbered cell first zero = []
+numbered cell first (suc count) = unused cell first ∷ numbered cell (suc first) count

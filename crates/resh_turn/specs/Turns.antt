@@ -9,9 +9,12 @@ use Rattle.resh_turn.specs.declared.rule.View.{View}
 use Rattle.resh_turn.specs.Replay.{own_of, IsFront, Each}
 
 module _ {T G : Type 0} where
-  -- the pass that the cell is made with
+  -- the pass that the cell is made with, once there are so many
+  abbrev pub opening : G → ℕ → View T G
+  opening begun count = record { live = true; holds = false; makes = true; begun = Some begun; known = record { number = 0; seen = []; own = [] }; made = count; gathered = [] }
+
   abbrev pub opened : G → View T G
-  opened begun = record { live = true; holds = false; makes = true; begun = Some begun; known = record { number = 0; seen = []; own = [] }; made = 1; gathered = [] }
+  opened begun = opening begun 1
 
   -- a new pass, whose number is that of those before it
   abbrev pub newcomer : View T G → View T G
@@ -21,7 +24,7 @@ module _ {T G : Type 0} where
   with_one_more v = record v { made = v.made + 1 }
 
   abbrev pub gathering : View T G → View T G → View T G
-  gathering v w = record v { gathered = v.gathered ++ w.known ∷ [] }
+  gathering v w = record v { gathered = w.known ∷ v.gathered }
 
   abbrev pub spent : View T G
   spent = record { live = false; holds = false; makes = false; begun = None; known = record { number = 0; seen = []; own = [] }; made = 0; gathered = [] }

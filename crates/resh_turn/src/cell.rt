@@ -2,15 +2,17 @@
 
 ghost use Rattle.std.specs.Prelude.{◌≡◌, ◌+◌, ◌<◌, ◌≤◌, true, [], ◌∷◌, ◌++◌, length, Some, None, IfOk, IfErr, OnErr, IsOk, MatchResult};
 ghost use Rattle.resh_turn.specs.Replay.{IsFront, made, own_of};
-ghost use Rattle.resh_turn.specs.Held.{given_back};
+ghost use Rattle.resh_turn.specs.Held.{given_back, numbered, unused};
+ghost use Rattle.resh_turn.specs.Turns.{opening};
 
 use crate::pass::{Pass, Passes};
-use crate::rule::{Begun, Release, Take, Turns, View};
+use crate::rule::{Another, Begun, Release, Take, Turns, View};
 use crate::story::{Journal, Story};
 use atomic_table::{Seat, Table};
 use resh_value::NoMemory;
 use std::alloc::Global;
 use std::marker::Model;
+use std::snapshot::Snapshot;
 
 const FREE: u64 = 0;
 
@@ -58,6 +60,89 @@ impl<'a, S: Journal> Model for Hold<'a, S> {
 }
 
 impl<S: Journal> TurnCell<S> {
+    /// A cell that holds the value, and so many passes, or want of memory.
+    pub fn make(
+        alloc: Global,
+        start: S,
+        passes: u32,
+    ) -> Result<(TurnCell<S>, Passes<S>), NoMemory>
+        requires some { 0 < passes }
+        requires fresh { S.journal start ≡ [] }
+        ensures cell { IfOk result (λ made. (made.0.start ≡ S.start start) × (made.0.passes ≡ passes)) }
+        ensures passes { IfOk result (λ made. made.1 ≡ numbered made.0 0 passes) }
+    {
+        let (cell, seat) = TurnCell::opened(alloc, start, passes)?;
+        let passes = cell.all_passes(alloc, seat, passes)?;
+        Ok((cell, Passes { passes }))
+    }
+
+    // All passes, from the seat of the first.
+    fn all_passes(
+        &self,
+        alloc: Global,
+        mut first: Seat<Option<S>, View<S::Step, S::State>>,
+        passes: u32,
+    ) -> Result<Vec<Pass<S>>, NoMemory>
+        requires cell { first.table_id ≡ self.now.cell }
+        requires first { first.me ≡ (opening self.now.start 1, []) }
+        requires passes { (0 < passes) × (self.now.passes ≡ passes) }
+        ensures { IfOk result (λ all. all.items ≡ numbered self.now 0 passes) }
+    {
+        let mut all = Vec::with_capacity(alloc, passes as usize)?;
+        let mut number = 1;
+        while number < passes {
+            all.push(self.another(&mut first, number))?;
+            number += 1;
+        }
+        all.insert(
+            0,
+            Pass {
+                number: 0,
+                seat: first,
+            },
+        )?;
+        Ok(all)
+    }
+
+    // The pass of this number, made by the first one.
+    fn another(
+        &self,
+        first: &mut Seat<Option<S>, View<S::Step, S::State>>,
+        number: u32,
+    ) -> Pass<S>
+        requires cell { first.old.table_id ≡ self.now.cell }
+        requires first { first.old.me ≡ (opening self.now.start number, []) }
+        requires room { number < self.now.passes }
+        ensures cell { first.new.table_id ≡ first.old.table_id }
+        ensures first { first.new.me ≡ (opening self.now.start (number + 1), []) }
+        ensures pass { result ≡ unused self.now number }
+    {
+        let seat = self.table.shared.split_seat::<Another>(first);
+        Pass { number, seat }
+    }
+
+    // The cell with its first pass's seat.
+    fn opened(
+        alloc: Global,
+        start: S,
+        passes: u32,
+    ) -> Result<(TurnCell<S>, Seat<Option<S>, View<S::Step, S::State>>), NoMemory>
+        requires some { 0 < passes }
+        requires fresh { S.journal start ≡ [] }
+        ensures { IfOk result (λ made. (made.0.start ≡ S.start start) × (made.0.passes ≡ passes) × (made.1.table_id ≡ made.0.cell) × (made.1.me ≡ (opening (S.start start) 1, []))) }
+    {
+        let about = Begun {
+            value: Snapshot::of(&start),
+            passes,
+        };
+        let mut slots = Vec::with_capacity(alloc, 1)?;
+        slots.push_reserved(Some(start));
+        let Ok((table, seat)) = Table::new(alloc, &[FREE], slots, &about) else {
+            return Err(NoMemory);
+        };
+        Ok((TurnCell { table, passes }, seat))
+    }
+
     /// One try to take the turn. The pass comes back where another had the turn.
     pub fn try_take(&self, pass: Pass<S>) -> Result<Hold<'_, S>, Pass<S>>
         requires { pass.cell ≡ self.now.cell }
@@ -86,6 +171,13 @@ impl<S: Journal> TurnCell<S> {
 }
 
 impl<'a, S: Journal> Hold<'a, S> {
+    /// The value.
+    pub fn state(&self) -> &S
+        ensures { result.now ≡ self.now.story }
+    {
+        &self.story
+    }
+
     /// Gives the turn back. The pass has then seen all of the journal.
     pub fn give(self) -> Pass<S>
         ensures { result ≡ given_back S.start S.journal self.entry }
@@ -102,5 +194,34 @@ impl<'a, S: Journal> Hold<'a, S> {
         };
         shared.store::<Release>(&mut seat, 0, FREE);
         Pass { number, seat }
+    }
+}
+
+impl<'a, S: Story> Hold<'a, S> {
+    /// Makes room for so many steps.
+    pub fn reserve(&mut self, steps: u64) -> Result<(), NoMemory>
+        ensures hold { (self.new.cell ≡ self.old.cell) × (self.new.number ≡ self.old.number) }
+        ensures start { S.start self.new.story ≡ S.start self.old.story }
+        ensures journal { S.journal self.new.story ≡ S.journal self.old.story }
+        ensures room { IfOk result (λ _. steps ≤ S.spare self.new.story) }
+        ensures kept { S.spare self.old.story ≤ S.spare self.new.story }
+    {
+        self.story.reserve(steps)
+    }
+
+    /// Makes a step in the name of the pass that holds the turn. After want of memory all is as before.
+    pub fn act(&mut self, step: S::Step) -> Result<S::Answer, NoMemory>
+        requires room { 0 < S.spare self.old.story }
+        requires allowed { S.allows (S.state self.old.story) step ≡ true }
+        ensures hold { (self.new.cell ≡ self.old.cell) × (self.new.number ≡ self.old.number) }
+        ensures start { S.start self.new.story ≡ S.start self.old.story }
+        ensures journal { IfOk result (λ _. S.journal self.new.story ≡ S.journal self.old.story ++ made self.old.number step ∷ []) }
+        ensures answer { IfOk result (λ it. it ≡ S.answer (S.state self.old.story) (made self.old.number step)) }
+        ensures used { IfOk result (λ _. S.spare self.new.story + 1 ≡ S.spare self.old.story) }
+        ensures same { OnErr result (S.journal self.new.story ≡ S.journal self.old.story) }
+        ensures room_stays { OnErr result (S.spare self.new.story ≡ S.spare self.old.story) }
+        ensures sure { S.sure step ≡ true → IsOk result }
+    {
+        self.story.act(step, self.number)
     }
 }

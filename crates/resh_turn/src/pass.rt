@@ -1,13 +1,16 @@
 //! Passes: the rights to take the turn.
 
-ghost use Rattle.std.specs.Prelude.{◌≡◌, true, false, []};
+ghost use Rattle.std.specs.Prelude.{◌≡◌, true, false, [], ◌∷◌, ◌++◌, length, slice_get, IfOk, IfErr, MatchOption};
+ghost use Rattle.std.specs.Option.{option_copied};
 
 use crate::rule::View;
 use crate::story::Journal;
 use atomic_table::Seat;
+use std::alloc::Global;
 use std::marker::Model;
 
 /// The right to take the turn of one cell.
+#[derive(Drop)]
 pub struct Pass<S: Journal> {
     pub(crate) number: u32,
     pub(crate) seat: Seat<Option<S>, View<S::Step, S::State>>,
@@ -25,7 +28,62 @@ impl<S: Journal> Model for Pass<S> {
     ghost invariant = { λ p. Waits p.number p.seat };
 }
 
-/// Passes of one cell.
+/// A list of passes.
+#[derive(Drop)]
 pub struct Passes<S: Journal> {
     pub(crate) passes: Vec<Pass<S>>,
+}
+
+impl<S: Journal> Model for Passes<S> {
+    ghost use Rattle.std.specs.Prelude.{List};
+    ghost use Rattle.std.specs.Coded.{coded_list};
+    ghost use Rattle.resh_turn.specs.Sight.{Sight, sight_code};
+
+    ghost Value = { List (Sight S.Step S.State) };
+
+    ghost coded = { coded_list (sight_code S.Step.code S.State.code) };
+
+    ghost view = { λ p. p.passes.items };
+}
+
+impl<S: Journal> Passes<S> {
+    /// An empty list, which keeps the allocator.
+    pub fn new(alloc: Global) -> Passes<S>
+        ensures { result ≡ [] }
+    {
+        Passes {
+            passes: Vec::new(alloc),
+        }
+    }
+
+    pub fn len(&self) -> u64
+        ensures { result ≡ length self.now }
+    {
+        self.passes.len() as u64
+    }
+
+    /// The pass at a place.
+    pub fn get(&self, place: u64) -> Option<&Pass<S>>
+        ensures { option_copied result ≡ slice_get self.now place }
+    {
+        self.passes.get(place as usize)
+    }
+
+    /// Puts a pass behind the others. It comes back where there is no memory for it.
+    pub fn push(&mut self, pass: Pass<S>) -> Result<(), Pass<S>>
+        ensures pushed { IfOk result (λ _. self.new ≡ self.old ++ pass ∷ []) }
+        ensures back { IfErr result (λ back. (back ≡ pass) × (self.new ≡ self.old)) }
+    {
+        match self.passes.push(pass) {
+            Ok(()) => Ok(()),
+            Err(failed) => Err(failed.value),
+        }
+    }
+
+    /// Takes the last pass out; `None` exactly where the list is empty.
+    pub fn pop(&mut self) -> Option<Pass<S>>
+        ensures { MatchOption result ((self.old ≡ []) × (self.new ≡ [])) (λ last. self.old ≡ self.new ++ last ∷ []) }
+    {
+        self.passes.pop()
+    }
 }

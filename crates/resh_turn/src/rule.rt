@@ -34,6 +34,7 @@ pub struct View<T, G> {
 }
 
 /// What a cell was made with.
+#[derive(Drop)]
 pub(crate) struct Begun<S> {
     pub(crate) value: Snapshot<S>,
     pub(crate) passes: u32,
