@@ -1,7 +1,25 @@
 -- Lists of passes.
-use Rattle.std.proofs.Common.{◌≡◌, ℕ, zero, suc, ◌+◌, ◌-◌, ◌<◌, ◌≤◌, Bool, true, false, List, [], ◌∷◌, ◌++◌, sym, refl, ap, ◌∙◌, subst, arith}
+use Rattle.std.proofs.Common.{◌≡◌, ℕ, zero, suc, ◌+◌, ◌-◌, ◌<◌, ◌≤◌, Bool, true, false, List, [], ◌∷◌, ◌++◌, map, append_assoc, append-nil, sym, refl, ap, ◌∙◌, subst, arith}
 use Rattle.resh_turn.specs.Sight.{Sight}
-use Rattle.resh_turn.specs.Held.{Cell, numbered, unused}
+use Rattle.resh_turn.specs.Held.{Cell, known_of, numbered, unused}
+use Rattle.resh_turn.specs.Replay.{Each}
+use Rattle.resh_turn.specs.declared.rule.Known.{Known}
+use mathlib.Core.List.{map-append}
+
+each_snoc : {A : Type 0} (P : A → Type 0) (xs : List A) (x : A) → Each P (xs ++ x ∷ []) → P x × Each P xs
+each_snoc P [] x h = (h.0, tt)
+each_snoc P (y ∷ ys) x h = let r = each_snoc P ys x h.1 in (r.0, (h.0, r.1))
+
+-- what holds of each pass holds of the last one and of the others
+pub last_of : {T G : Type 0} (P : Sight T G → Type 0) (all rest : List (Sight T G)) (p : Sight T G) → all ≡ rest ++ p ∷ [] → Each P all → P p × Each P rest
+last_of P all rest p is h = each_snoc P rest p (subst (Each P) is h)
+
+-- what is known of the passes, when the last one goes over to those that were taken in
+pub goes_over : {T G : Type 0} (whole : List (Known T)) (all rest : List (Sight T G)) (p : Sight T G) (others : List (Known T)) (k : Known T)
+    → all ≡ rest ++ p ∷ [] → k ≡ known_of p → whole ≡ map known_of all ++ others → whole ≡ map known_of rest ++ k ∷ others
+goes_over whole all rest p others k is known e =
+    e ∙ ap (λ l. map known_of l ++ others) is ∙ ap (λ l. l ++ others) (map-append known_of rest (p ∷ []))
+    ∙ append_assoc (map known_of rest) (known_of p ∷ []) others ∙ ap (λ x. map known_of rest ++ x ∷ others) (sym known)
 
 module _ {T G : Type 0} (cell : Cell G) where
   snoc : (first count : ℕ) → numbered {T = T} cell first count ++ unused cell (first + count) ∷ [] ≡ numbered cell first (suc count)

@@ -1,11 +1,13 @@
 -- What contracts see of a cell and of a hold.
-use Rattle.std.specs.Prelude.{◌≡◌, ℕ, zero, suc, true, List, [], ◌∷◌, Option, Some, None, refl}
+use Rattle.std.specs.Prelude.{◌≡◌, ℕ, zero, suc, true, List, [], ◌∷◌, Option, Some, None, refl, Bool, ◌==◌, ◌&&◌, ◌<◌}
+use Rattle.std.specs.List.{list_any}
 use Rattle.std.specs.Coded.{Coded, code_by, coded×, coded_ℕ}
 use Rattle.atomic_table.specs.Seated.{TableId, table_id_coded}
 use Rattle.atomic_table.specs.Table.{Me}
 use Rattle.resh_turn.specs.declared.story.Made.{Made}
+use Rattle.resh_turn.specs.declared.rule.Known.{Known}
 use Rattle.resh_turn.specs.declared.rule.View.{View}
-use Rattle.resh_turn.specs.Replay.{Grows, own_of}
+use Rattle.resh_turn.specs.Replay.{Each, Grows, IsFront, own_of}
 use Rattle.resh_turn.specs.Sight.{Sight}
 
 -- which cell it is, with what its value began, and how many passes it has
@@ -36,6 +38,7 @@ abbrev pub IsHeld : {S T G : Type 0} → (S → G) → (S → List (Made T)) →
 IsHeld start journal number me story =
     (me.0.live ≡ true) × (me.0.holds ≡ true) × (me.1 ≡ (0, None) ∷ []) × (me.0.known.number ≡ number)
     × (Some (start story) ≡ me.0.begun) × Grows number me.0.known.seen (journal story)
+    × (me.0.gathered ≡ [])
 
 -- the pass once the turn is given back: it has seen all of the journal
 abbrev pub given_back : {S T G : Type 0} → (S → G) → (S → List (Made T)) → Held S → Sight T G
@@ -55,3 +58,27 @@ unused cell number = record { cell = cell.cell; begun = Some cell.start; number 
 abbrev pub numbered : {T G : Type 0} → Cell G → ℕ → ℕ → List (Sight T G)
 numbered cell first zero = []
 numbered cell first (suc count) = unused cell first ∷ numbered cell (suc first) count
+
+module _ {T G : Type 0} where
+  -- whether a pass of this number is among them
+  abbrev pub has : ℕ → List (Sight T G) → Bool
+  has number passes = list_any (λ p. p.number == number) passes
+
+  -- whether there is one of each number below
+  abbrev pub has_all : ℕ → List (Sight T G) → Bool
+  has_all zero passes = true
+  has_all (suc n) passes = has n passes && has_all n passes
+
+  -- the part of what contracts see of a pass that is of the journal
+  abbrev pub known_of : Sight T G → Known T
+  known_of pass = record { number = pass.number; seen = pass.seen; own = pass.own }
+
+  -- what a pass knows of the whole journal: it has seen its beginning, and which steps of it are its own
+  abbrev pub IsKnownOf : List (Made T) → Sight T G → Type 0
+  IsKnownOf journal pass = IsFront pass.seen journal × (own_of pass.number journal ≡ pass.own)
+
+  -- the value that a cell ends with
+  pub record IsEnd {S : Type 0} (start : S → G) (journal : S → List (Made T)) (cell : Cell G) (passes : List (Sight T G)) (story : S) : Type 0 where
+    pub start_stays : start story ≡ cell.start
+    pub known : Each (IsKnownOf (journal story)) passes
+    pub below : Each (λ e. e.by < cell.passes) (journal story)

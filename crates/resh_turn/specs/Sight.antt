@@ -33,3 +33,4 @@ sight number seat = record { cell = seat.table_id; begun = seat.me.0.begun; numb
 abbrev pub Waits : {S T G : Type 0} → ℕ → Seat (Option S) (View T G) → Type 0
 Waits number seat =
     (seat.me.0.live ≡ true) × (seat.me.0.holds ≡ false) × (seat.me.1 ≡ []) × (seat.me.0.known.number ≡ number)
+    × (seat.me.0.gathered ≡ [])

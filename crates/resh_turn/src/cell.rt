@@ -1,18 +1,23 @@
 //! The cell whose value threads change in turn, and the hold of a turn.
 
-ghost use Rattle.std.specs.Prelude.{◌≡◌, ◌+◌, ◌<◌, ◌≤◌, true, [], ◌∷◌, ◌++◌, length, Some, None, IfOk, IfErr, OnErr, IsOk, MatchResult};
-ghost use Rattle.resh_turn.specs.Replay.{IsFront, made, own_of};
-ghost use Rattle.resh_turn.specs.Held.{given_back, numbered, unused};
+ghost use Rattle.std.specs.Prelude.{◌≡◌, ◌+◌, ◌<◌, ◌≤◌, true, false, [], ◌∷◌, ◌++◌, length, map, Some, None, IfOk, IfErr, OnErr, IsOk, MatchResult};
+ghost use Rattle.resh_turn.specs.Replay.{Each, IsFront, made, own_of};
+ghost use Rattle.resh_turn.specs.Held.{IsEnd, IsKnownOf, given_back, has_all, known_of, numbered, unused};
 ghost use Rattle.resh_turn.specs.Turns.{opening};
 
-use crate::pass::{Pass, Passes};
-use crate::rule::{Another, Begun, Release, Take, Turns, View};
+use crate::pass::{Pass, Passes, TurnSeat, has_all};
+use crate::rule::{Another, Begun, Gather, Release, Take, Turns, View};
 use crate::story::{Journal, Story};
-use atomic_table::{Seat, Table};
+use atomic_table::Table;
 use resh_value::NoMemory;
 use std::alloc::Global;
 use std::marker::Model;
 use std::snapshot::Snapshot;
+use std::sync::Wait;
+use std::thread::yield_now;
+
+// The table under a cell: one word, free or taken, and one slot, with the value.
+type TurnTable<S: Journal> = Table<Option<S>, View<S::Step, S::State>, Begun<S>, Turns, Global>;
 
 const FREE: u64 = 0;
 
@@ -21,12 +26,12 @@ const TAKEN: u64 = 1;
 /// One value that several passes change in turn.
 #[derive(Drop)]
 pub struct TurnCell<S: Journal> {
-    table: Table<Option<S>, View<S::Step, S::State>, Begun<S>, Turns, Global>,
+    table: TurnTable<S>,
     passes: u32,
 }
 
 impl<S: Journal> Model for TurnCell<S> {
-    ghost use Rattle.std.specs.Prelude.{◌≡◌};
+    ghost use Rattle.std.specs.Prelude.{◌≡◌, ◌<◌};
     ghost use Rattle.resh_turn.specs.Held.{Cell, cell_code};
 
     ghost Value = { Cell S.State };
@@ -35,14 +40,14 @@ impl<S: Journal> Model for TurnCell<S> {
 
     ghost view = { λ t. record { cell = t.table.shared.table_id; start = S.start t.table.shared.key.value.value; passes = t.passes } };
 
-    ghost invariant = { λ t. (t.passes ≡ t.table.shared.key.passes) × (t.table.shared.table_id.words ≡ 1) × (t.table.shared.table_id.slots ≡ 1) };
+    ghost invariant = { λ t. (0 < t.passes) × (t.passes ≡ t.table.shared.key.passes) × (t.table.shared.table_id.words ≡ 1) × (t.table.shared.table_id.slots ≡ 1) };
 }
 
 /// The turn of a cell, with its value. End it by `give`.
 pub struct Hold<'a, S: Journal> {
     cell: &'a TurnCell<S>,
     number: u32,
-    seat: Seat<Option<S>, View<S::Step, S::State>>,
+    seat: TurnSeat<S>,
     story: S,
 }
 
@@ -76,11 +81,60 @@ impl<S: Journal> TurnCell<S> {
         Ok((cell, Passes { passes }))
     }
 
+    /// Waits for the turn and takes it.
+    pub fn take<R: Wait>(&self, rt: &R, mut pass: Pass<S>) -> Hold<'_, S>
+        requires { pass.cell ≡ self.now.cell }
+        ensures hold { (result.cell ≡ pass.cell) × (result.number ≡ pass.number) }
+        ensures start { Some (S.start result.story) ≡ pass.begun }
+        ensures seen { IsFront pass.seen (S.journal result.story) }
+        ensures own { own_of result.number (S.journal result.story) ≡ pass.own }
+    {
+        for _ in rt.forever() {
+            match self.try_take(pass) {
+                Ok(hold) => return hold,
+                Err(back) => pass = back,
+            }
+            yield_now();
+        }
+        unreachable!()
+    }
+
+    /// Ends the cell and gives its value, where each of its passes is among these. Else all comes back.
+    pub fn close(self, passes: Passes<S>) -> Result<S, (TurnCell<S>, Passes<S>)>
+        requires { Each (λ pass. pass.cell ≡ self.cell) passes }
+        ensures whole { IfOk result (λ _. has_all self.passes passes ≡ true) }
+        ensures start { IfOk result (λ story. S.start story ≡ self.start) }
+        ensures known { IfOk result (λ story. Each (IsKnownOf (S.journal story)) passes) }
+        ensures below { IfOk result (λ story. Each (λ e. e.by < self.passes) (S.journal story)) }
+        ensures missing { IfErr result (λ _. has_all self.passes passes ≡ false) }
+        ensures back { IfErr result (λ back. (back.0 ≡ self) × (back.1 ≡ passes)) }
+    {
+        if !has_all(passes.passes.as_slice(), self.passes) {
+            return Err((self, passes));
+        }
+        Ok(self.ended(passes.passes))
+    }
+
+    // The value of a cell whose passes are all here.
+    fn ended(self, passes: Vec<Pass<S>>) -> S
+        requires cells { Each (λ pass. pass.cell ≡ self.cell) passes.items }
+        requires whole { has_all self.passes passes.items ≡ true }
+        ensures { IsEnd S.start S.journal self passes.items result }
+    {
+        let TurnCell { table, .. } = self;
+        let seat = gathered(&table, passes);
+        let mut closed = table.close_with(seat);
+        let story = closed.take(0);
+        closed.free();
+        let Some(story) = story else { unreachable!() };
+        story
+    }
+
     // All passes, from the seat of the first.
     fn all_passes(
         &self,
         alloc: Global,
-        mut first: Seat<Option<S>, View<S::Step, S::State>>,
+        mut first: TurnSeat<S>,
         passes: u32,
     ) -> Result<Vec<Pass<S>>, NoMemory>
         requires cell { first.table_id ≡ self.now.cell }
@@ -107,7 +161,7 @@ impl<S: Journal> TurnCell<S> {
     // The pass of this number, made by the first one.
     fn another(
         &self,
-        first: &mut Seat<Option<S>, View<S::Step, S::State>>,
+        first: &mut TurnSeat<S>,
         number: u32,
     ) -> Pass<S>
         requires cell { first.old.table_id ≡ self.now.cell }
@@ -126,7 +180,7 @@ impl<S: Journal> TurnCell<S> {
         alloc: Global,
         start: S,
         passes: u32,
-    ) -> Result<(TurnCell<S>, Seat<Option<S>, View<S::Step, S::State>>), NoMemory>
+    ) -> Result<(TurnCell<S>, TurnSeat<S>), NoMemory>
         requires some { 0 < passes }
         requires fresh { S.journal start ≡ [] }
         ensures { IfOk result (λ made. (made.0.start ≡ S.start start) × (made.0.passes ≡ passes) × (made.1.table_id ≡ made.0.cell) × (made.1.me ≡ (opening (S.start start) 1, []))) }
@@ -168,6 +222,25 @@ impl<S: Journal> TurnCell<S> {
             story,
         })
     }
+}
+
+// The last pass's seat, once it has taken in the others.
+fn gathered<S: Journal>(table: &TurnTable<S>, mut passes: Vec<Pass<S>>) -> TurnSeat<S>
+    requires some { 0 < length passes.items }
+    requires words { 0 < table.now.shared.table_id.words }
+    requires cells { Each (λ pass. pass.cell ≡ table.now.shared.table_id) passes.items }
+    ensures cell { result.table_id ≡ table.now.shared.table_id }
+    ensures waits { (result.me.0.live ≡ true) × (result.me.0.holds ≡ false) }
+    ensures known { map known_of passes.items ≡ result.me.0.gathered ++ result.me.0.known ∷ [] }
+{
+    let Some(last) = passes.pop() else {
+        unreachable!()
+    };
+    let mut seat = last.into_seat();
+    while let Some(pass) = passes.pop() {
+        table.shared.join_seat::<Gather>(&mut seat, pass.into_seat());
+    }
+    seat
 }
 
 impl<'a, S: Journal> Hold<'a, S> {

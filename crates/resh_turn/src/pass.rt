@@ -2,6 +2,7 @@
 
 ghost use Rattle.std.specs.Prelude.{◌≡◌, true, false, [], ◌∷◌, ◌++◌, length, slice_get, IfOk, IfErr, MatchOption};
 ghost use Rattle.std.specs.Option.{option_copied};
+ghost use Rattle.resh_turn.specs.Held.{has, has_all, known_of};
 
 use crate::rule::View;
 use crate::story::Journal;
@@ -9,11 +10,13 @@ use atomic_table::Seat;
 use std::alloc::Global;
 use std::marker::Model;
 
+pub(crate) type TurnSeat<S: Journal> = Seat<Option<S>, View<S::Step, S::State>>;
+
 /// The right to take the turn of one cell.
 #[derive(Drop)]
 pub struct Pass<S: Journal> {
     pub(crate) number: u32,
-    pub(crate) seat: Seat<Option<S>, View<S::Step, S::State>>,
+    pub(crate) seat: TurnSeat<S>,
 }
 
 impl<S: Journal> Model for Pass<S> {
@@ -26,6 +29,16 @@ impl<S: Journal> Model for Pass<S> {
     ghost view = { λ p. sight p.number p.seat };
 
     ghost invariant = { λ p. Waits p.number p.seat };
+}
+
+impl<S: Journal> Pass<S> {
+    pub(crate) fn into_seat(self) -> TurnSeat<S>
+        ensures cell { result.table_id ≡ self.cell }
+        ensures waits { (result.me.0.live ≡ true) × (result.me.0.holds ≡ false) × (result.me.1 ≡ []) × (result.me.0.gathered ≡ []) }
+        ensures known { result.me.0.known ≡ known_of self }
+    {
+        self.seat
+    }
 }
 
 /// A list of passes.
@@ -86,4 +99,31 @@ impl<S: Journal> Passes<S> {
     {
         self.passes.pop()
     }
+}
+
+// Whether a pass of this number is among them.
+fn has<S: Journal>(mut passes: &[Pass<S>], number: u32) -> bool
+    ensures { result ≡ has number passes.now }
+{
+    while let [first, rest @ ..] = passes {
+        if first.number == number {
+            return true;
+        }
+        passes = rest;
+    }
+    false
+}
+
+/// Whether there is a pass of each number below this one.
+pub(crate) fn has_all<S: Journal>(passes: &[Pass<S>], count: u32) -> bool
+    ensures { result ≡ has_all count passes.now }
+{
+    let mut left = count;
+    while left > 0 {
+        left -= 1;
+        if !has(passes, left) {
+            return false;
+        }
+    }
+    true
 }

@@ -7,6 +7,6 @@ split_seat-seat-requires g c =
     let first = c.requires.first in
     let made = ap (λ m. m.0.made) first in
     let few = ap (λ t. t.passes) c.self.view_is in
-    let count = c.self.invariant.0 in
+    let count = c.self.invariant.1 in
     let room = c.requires.room in
     (search rules, search rules, makes_pass g.S.Journal.start g.S.Journal.journal _ _ _ _ (ap (λ m. m.0.live) first) (ap (λ m. m.0.holds) first) (ap (λ m. m.0.makes) first) (omega arith))
