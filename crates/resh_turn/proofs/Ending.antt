@@ -1,9 +1,11 @@
 -- What the last state of a cell gives, once one pass has taken in all others.
-use Rattle.std.proofs.Common.{◌≡◌, ◌≢◌, ℕ, zero, suc, ◌+◌, ◌<◌, ◌≤◌, Bool, true, false, true≢false, cond, ◌&&◌, ◌||◌, ◌==◌, List, [], ◌∷◌, ◌++◌, map, length, sym, refl, ap, ◌∙◌, subst, inl, inr, ⊎_elim, arith, Option, Some, None}
+use Rattle.std.proofs.Common.{◌≡◌, ◌≢◌, ℕ, zero, suc, ◌+◌, ◌<◌, ◌≤◌, Bool, true, false, true≢false, cond, ◌&&◌, ◌||◌, ◌==◌, List, [], ◌∷◌, ◌++◌, map, length, take, drop, ◌⊎◌, sym, refl, ap, ◌∙◌, subst, inl, inr, ⊎_elim, arith, Option, Some, None}
 use mathlib.Core.Option.{some, none, some-injective, some-ne-none}
 use mathlib.Core.Logic.{dite}
-use native.Mathlib.Decide.{ℕ_discrete}
+use native.Mathlib.Decide.{dec_le, ℕ_discrete}
 use lib.ListN.{get_elem?}
+use Rattle.std.proofs.lemmas.List.{take-append-drop, take-append-le}
+use Rattle.std.proofs.Math.Seq.{take-append_seam}
 use Rattle.std.specs.List.{list_any}
 use Rattle.atomic_table.specs.Table.{State, Final, Seen}
 use Rattle.resh_turn.specs.declared.story.Made.{Made}
@@ -11,13 +13,23 @@ use Rattle.resh_turn.specs.declared.rule.Known.{Known}
 use Rattle.resh_turn.specs.declared.rule.View.{View}
 use Rattle.resh_turn.specs.Replay.{own_of, IsFront, Each}
 use Rattle.resh_turn.specs.Sight.{Sight}
-use Rattle.resh_turn.specs.Held.{Cell, IsEnd, IsKnownOf, has, has_all, known_of}
+use Rattle.resh_turn.specs.Held.{AreAlong, Cell, IsEnd, IsKnownOf, has, has_all, known_of}
 use Rattle.resh_turn.specs.Turns.{IsGathered, IsFree, IsTaken, Kept}
 use Rattle.resh_turn.proofs.Steps.{at_inside, and_left, and_right, eqb_is, every, each_append}
 
 abbrev content : {A : Type 0} → A → Option A → A
 content d None = d
 content d (Some x) = x
+
+module _ {T : Type 0} where
+  shorter_first : (xs ys whole : List (Made T)) → IsFront xs whole → IsFront ys whole → length xs ≤ length ys → IsFront xs ys
+  shorter_first xs ys whole f g less =
+      let n = length xs in
+      let first : xs ≡ take n ys = sym (take-append_seam xs f.0) ∙ ap (take n) (sym f.1 ∙ g.1) ∙ take-append-le n ys g.0 less in
+      (drop n ys, sym (take-append-drop n ys) ∙ ap (λ l. l ++ drop n ys) (sym first))
+
+  fronts : (xs ys whole : List (Made T)) → IsFront xs whole → IsFront ys whole → IsFront xs ys ⊎ IsFront ys xs
+  fronts xs ys whole f g = dite (dec_le (length xs) (length ys)) (λ less. inl (shorter_first xs ys whole f g less)) (λ more. inr (shorter_first ys xs whole g f (omega arith)))
 
 either_one : {R : Type 0} (b rest : Bool) → (b ≡ true → R) → (rest ≡ true → R) → (b || rest) ≡ true → R
 either_one true rest here more h = here refl
@@ -44,6 +56,9 @@ module _ {T G : Type 0} where
   each_map : (P : Known T → Type 0) (Q : Sight T G → Type 0) → ((p : Sight T G) → P (known_of p) → Q p) → (passes : List (Sight T G)) → Each P (map known_of passes) → Each Q passes
   each_map P Q f [] h = tt
   each_map P Q f (p ∷ ps) h = (f p h.0, each_map P Q f ps h.1)
+
+  along_of : (log : List (Made T)) (passes : List (Sight T G)) → Each (IsKnownOf log) passes → AreAlong passes
+  along_of log passes known = every _ _ (λ p f. every _ _ (λ q g. fronts p.seen q.seen log f.0 g.0) passes known) passes known
 
 module _ {S T G : Type 0} (start : S → G) (journal : S → List (Made T)) where
   abbrev V : Type 0
@@ -83,6 +98,7 @@ module _ {S T G : Type 0} (start : S → G) (journal : S → List (Made T)) wher
         record {
           start_stays = ap (content cell.start) h.4;
           known = subst (λ l. Each (IsKnownOf l) passes) (sym h.3) (each_map (IsSo k.log) (IsKnownOf k.log) (λ p is. is) passes (subst (Each (IsSo k.log)) (sym known) so));
+          along = along_of k.log passes (each_map (IsSo k.log) (IsKnownOf k.log) (λ p is. is) passes (subst (Each (IsSo k.log)) (sym known) so));
           below = subst (λ l. Each (λ e. e.by < cell.passes) l) (sym h.3) (every _ _ (λ e less. let c = k.few in omega arith) k.log k.below);
         },
       ))

@@ -1,5 +1,5 @@
 -- What contracts see of a cell and of a hold.
-use Rattle.std.specs.Prelude.{◌≡◌, ℕ, zero, suc, true, List, [], ◌∷◌, Option, Some, None, refl, Bool, ◌==◌, ◌&&◌, ◌<◌}
+use Rattle.std.specs.Prelude.{◌≡◌, ℕ, zero, suc, true, List, [], ◌∷◌, Option, Some, None, refl, Bool, ◌==◌, ◌&&◌, ◌<◌, ◌⊎◌}
 use Rattle.std.specs.List.{list_any}
 use Rattle.std.specs.Coded.{Coded, code_by, coded×, coded_ℕ}
 use Rattle.atomic_table.specs.Seated.{TableId, table_id_coded}
@@ -77,8 +77,13 @@ module _ {T G : Type 0} where
   abbrev pub IsKnownOf : List (Made T) → Sight T G → Type 0
   IsKnownOf journal pass = IsFront pass.seen journal × (own_of pass.number journal ≡ pass.own)
 
+  -- of any two passes, one has seen the beginning of what the other has
+  abbrev pub AreAlong : List (Sight T G) → Type 0
+  AreAlong passes = Each (λ p. Each (λ q. IsFront p.seen q.seen ⊎ IsFront q.seen p.seen) passes) passes
+
   -- the value that a cell ends with
   pub record IsEnd {S : Type 0} (start : S → G) (journal : S → List (Made T)) (cell : Cell G) (passes : List (Sight T G)) (story : S) : Type 0 where
     pub start_stays : start story ≡ cell.start
     pub known : Each (IsKnownOf (journal story)) passes
+    pub along : AreAlong passes
     pub below : Each (λ e. e.by < cell.passes) (journal story)

@@ -1,8 +1,8 @@
 //! The cell whose value threads change in turn, and the hold of a turn.
 
 ghost use Rattle.std.specs.Prelude.{◌≡◌, ◌+◌, ◌<◌, ◌≤◌, true, false, [], ◌∷◌, ◌++◌, length, map, Some, None, IfOk, IfErr, OnErr, IsOk, MatchResult};
-ghost use Rattle.resh_turn.specs.Replay.{Each, IsFront, made, own_of};
-ghost use Rattle.resh_turn.specs.Held.{IsEnd, IsKnownOf, given_back, has_all, known_of, numbered, unused};
+ghost use Rattle.resh_turn.specs.Replay.{Each, IsFront, made, own_of, replay};
+ghost use Rattle.resh_turn.specs.Held.{AreAlong, IsEnd, IsKnownOf, given_back, has_all, known_of, numbered, unused};
 ghost use Rattle.resh_turn.specs.Turns.{opening};
 
 use crate::pass::{Pass, Passes, TurnSeat, has_all};
@@ -105,6 +105,7 @@ impl<S: Journal> TurnCell<S> {
         ensures whole { IfOk result (λ _. has_all self.passes passes ≡ true) }
         ensures start { IfOk result (λ story. S.start story ≡ self.start) }
         ensures known { IfOk result (λ story. Each (IsKnownOf (S.journal story)) passes) }
+        ensures along { IfOk result (λ _. AreAlong passes) }
         ensures below { IfOk result (λ story. Each (λ e. e.by < self.passes) (S.journal story)) }
         ensures missing { IfErr result (λ _. has_all self.passes passes ≡ false) }
         ensures back { IfErr result (λ back. (back.0 ≡ self) × (back.1 ≡ passes)) }
@@ -244,13 +245,6 @@ fn gathered<S: Journal>(table: &TurnTable<S>, mut passes: Vec<Pass<S>>) -> TurnS
 }
 
 impl<'a, S: Journal> Hold<'a, S> {
-    /// The value.
-    pub fn state(&self) -> &S
-        ensures { result.now ≡ self.now.story }
-    {
-        &self.story
-    }
-
     /// Gives the turn back. The pass has then seen all of the journal.
     pub fn give(self) -> Pass<S>
         ensures { result ≡ given_back S.start S.journal self.entry }
@@ -271,6 +265,14 @@ impl<'a, S: Journal> Hold<'a, S> {
 }
 
 impl<'a, S: Story> Hold<'a, S> {
+    /// The value. Its state is the first one after all steps of the journal.
+    pub fn state(&self) -> &S
+        ensures value { result.now ≡ self.now.story }
+        ensures replays { S.state self.now.story ≡ replay S.next (S.start self.now.story) (S.journal self.now.story) }
+    {
+        &self.story
+    }
+
     /// Makes room for so many steps.
     pub fn reserve(&mut self, steps: u64) -> Result<(), NoMemory>
         ensures hold { (self.new.cell ≡ self.old.cell) × (self.new.number ≡ self.old.number) }
