@@ -1,12 +1,11 @@
 -- What the last state of a cell gives, once one pass has taken in all others.
-use Rattle.std.proofs.Common.{◌≡◌, ◌≢◌, ℕ, zero, suc, ◌+◌, ◌<◌, ◌≤◌, Bool, true, false, true≢false, cond, ◌&&◌, ◌||◌, ◌==◌, List, [], ◌∷◌, ◌++◌, map, length, take, drop, ◌⊎◌, sym, refl, ap, ◌∙◌, subst, inl, inr, ⊎_elim, arith, Option, Some, None}
-use mathlib.Core.Option.{some, none, some-injective, some-ne-none}
+use Rattle.std.proofs.Common.{◌≡◌, ℕ, zero, suc, ◌<◌, ◌≤◌, Bool, true, false, true≢false, ◌||◌, ◌==◌, List, [], ◌∷◌, ◌++◌, map, length, take, drop, ◌⊎◌, sym, refl, ap, ◌∙◌, subst, inl, inr, ⊎_elim, arith, Option, Some, None}
+use mathlib.Core.Option.{some, some-injective}
 use mathlib.Core.Logic.{dite}
 use native.Mathlib.Decide.{dec_le, ℕ_discrete}
 use lib.ListN.{get_elem?}
 use Rattle.std.proofs.lemmas.List.{take-append-drop, take-append-le}
 use Rattle.std.proofs.Math.Seq.{take-append_seam}
-use Rattle.std.specs.List.{list_any}
 use Rattle.atomic_table.specs.Table.{State, Final, Seen}
 use Rattle.resh_turn.specs.declared.story.Made.{Made}
 use Rattle.resh_turn.specs.declared.rule.Known.{Known}
@@ -14,7 +13,7 @@ use Rattle.resh_turn.specs.declared.rule.View.{View}
 use Rattle.resh_turn.specs.Replay.{own_of, IsFront, Each}
 use Rattle.resh_turn.specs.Sight.{Sight}
 use Rattle.resh_turn.specs.Held.{AreAlong, Cell, IsEnd, IsKnownOf, has, has_all, known_of}
-use Rattle.resh_turn.specs.Turns.{IsGathered, IsFree, IsTaken, Kept}
+use Rattle.resh_turn.specs.Turns.{IsFree, IsTaken, Kept}
 use Rattle.resh_turn.proofs.Steps.{at_inside, and_left, and_right, eqb_is, every, each_append}
 
 abbrev content : {A : Type 0} → A → Option A → A
@@ -84,13 +83,13 @@ module _ {S T G : Type 0} (start : S → G) (journal : S → List (Made T)) wher
       let at : get_elem? s.views id ≡ some v = f.1.1 in
       let fv = k.fits id v at live in
       let quiet : Each (IsQuiet s.views) (v.gathered ++ v.known ∷ []) =
-          each_append (IsQuiet s.views) v.gathered (v.known ∷ [])
-          (every _ _ (λ g is u here alive. absurd (true≢false (sym alive ∙ ap (λ (y : V). y.live) (some-injective u is.0.0 (sym here ∙ is.0.1)) ∙ is.0.2))) v.gathered (k.gathered id v at live))
-          ((λ u here alive. ap (λ (y : V). y.holds) (some-injective u v (sym here ∙ ap (get_elem? s.views) fv.0 ∙ at)) ∙ waits), tt) in
+      each_append (IsQuiet s.views) v.gathered (v.known ∷ [])
+      (every _ _ (λ g is u here alive. absurd (true≢false (sym alive ∙ ap (λ (y : V). y.live) (some-injective u is.0.0 (sym here ∙ is.0.1)) ∙ is.0.2))) v.gathered (k.gathered id v at live))
+      ((λ u here alive. ap (λ (y : V). y.holds) (some-injective u v (sym here ∙ ap (get_elem? s.views) fv.0 ∙ at)) ∙ waits), tt) in
       let so : Each (IsSo k.log) (v.gathered ++ v.known ∷ []) =
-          each_append (IsSo k.log) v.gathered (v.known ∷ [])
-          (every _ _ (λ g is. (is.1, sym is.2)) v.gathered (k.gathered id v at live))
-          ((fv.2, ap (λ n. own_of n k.log) fv.0 ∙ sym fv.3), tt) in
+      each_append (IsSo k.log) v.gathered (v.known ∷ [])
+      (every _ _ (λ g is. (is.1, sym is.2)) v.gathered (k.gathered id v at live))
+      ((fv.2, ap (λ n. own_of n k.log) fv.0 ∙ sym fv.3), tt) in
       ⊎_elim
       (λ (h : IsFree start journal cell.start s.words s.homes k.log). (
         h.1,
@@ -103,11 +102,11 @@ module _ {S T G : Type 0} (start : S → G) (journal : S → List (Made T)) wher
         },
       ))
       (λ (h : IsTaken start journal k.holder s.words s.homes s.views).
-          let inside = at_inside s.views k.holder h.2 h.3 in
-          let few = k.few in
-          let long = k.counted in
-          let there = among (IsQuiet s.views) k.holder passes (v.gathered ++ v.known ∷ []) known (has_at cell.passes k.holder passes (omega arith) whole) quiet in
-          absurd (true≢false (sym h.5 ∙ there.1 h.2 (ap (get_elem? s.views) there.2 ∙ h.3) h.4)))
+      let inside = at_inside s.views k.holder h.2 h.3 in
+      let few = k.few in
+      let long = k.counted in
+      let there = among (IsQuiet s.views) k.holder passes (v.gathered ++ v.known ∷ []) known (has_at cell.passes k.holder passes (omega arith) whole) quiet in
+      absurd (true≢false (sym h.5 ∙ there.1 h.2 (ap (get_elem? s.views) there.2 ∙ h.3) h.4)))
       k.value
 
   pub is_there : (cell : Cell G) (passes : List (Sight T G)) (items : List (Option S)) → Ends cell passes items → (found : Option S) → get_elem? items 0 ≡ some found

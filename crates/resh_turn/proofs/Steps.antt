@@ -1,14 +1,14 @@
 -- Each step keeps the rule of a cell with turns.
-use Rattle.std.proofs.Common.{◌≡◌, ◌≢◌, ℕ, zero, suc, ◌+◌, ◌<◌, ◌≤◌, Bool, true, false, true≢false, eqb, ne_eqb, cond, ◌&&◌, List, [], ◌∷◌, ◌++◌, length, length-set, drop, set, get_or, ◌==◌, sym, refl, ap, ◌∙◌, subst, inl, inr, ⊎_elim, append_assoc, append-nil, arith, Option, Some, None}
+use Rattle.std.proofs.Common.{◌≡◌, ◌≢◌, ℕ, zero, suc, ◌+◌, ◌<◌, Bool, true, false, true≢false, ne_eqb, cond, ◌&&◌, List, [], ◌∷◌, ◌++◌, length, length-set, drop, set, get_or, ◌==◌, sym, refl, ap, ◌∙◌, subst, inl, inr, ⊎_elim, append_assoc, append-nil, arith, Option, Some}
 use mathlib.Core.Option.{some, none, some-injective, some-ne-none, Option as Maybe}
 use lib.ListN.{get_elem?}
 use lib.Dec.{T as IsSo}
 use Rattle.std.proofs.Math.Facts.{eqb_yes}
 use Rattle.std.proofs.lemmas.List.Elements.{filter-append}
-use Rattle.std.specs.List.{filter, list_all}
+use Rattle.std.specs.List.{list_all}
 use prog.Atomic.{either}
-use Rattle.atomic_table.specs.Table.{State, Me, Step, rest, Act, keeps, takes, gives, step, opening, Allows, Splits, Joins, Valid, homes_after, carried_after}
-use Rattle.atomic_table.proofs.Lists.{at_set, set_here, set_else, set_again, at_snoc, at_longer}
+use Rattle.atomic_table.specs.Table.{Me, Step, rest, Act, keeps, takes, gives, step, opening, Allows, Splits, Joins, Valid, homes_after, carried_after}
+use Rattle.atomic_table.proofs.Lists.{at_set, set_here, set_else, set_again, at_longer}
 use Rattle.resh_turn.specs.declared.story.Made.{Made}
 use Rattle.resh_turn.specs.declared.rule.Known.{Known}
 use Rattle.resh_turn.specs.declared.rule.View.{View}
@@ -155,47 +155,45 @@ module _ {S T G : Type 0} (start : S → G) (journal : S → List (Made T)) wher
   takes_from begun passes slots seat v live waits s k _ at _ =
       ⊎_elim
       (λ (h : IsFree start journal begun s.words s.homes k.log).
-          let x = h.1 in let w : V = holding v (journal x) in let fv = k.fits seat v at live in
-          let views = set s.views seat w in
-          owes begun passes s.views seat (v, []) (λ n. either (n == 0) 1 n) (taking start journal (step slots 0 0 1 none) (v, [])) s.words (0 ∷ []) s.homes (some (Some x) ∷ []) h.0 h.2
-          (
-            w,
-            takes 0 (Some x),
-            refl,
-            record {
-              log = k.log;
-              holder = seat;
-              count = k.count;
-              counted = length-set s.views seat w ∙ k.counted;
-              value = inr (refl, refl, w, set_here s.views seat w (at_inside s.views seat v at), live, refl);
-              fits = all_set (λ j u. u.live ≡ true → Fits start journal begun (1 ∷ []) k.log seat j u) s.views seat w
-                  (λ _. (fv.0, fv.1, front_same h.3, fv.3, λ _. (refl, refl, h.3)))
-                  (λ j u other e alive. let f = k.fits j u e alive in (f.0, f.1, f.2, f.3, λ holds. absurd (zero_isn't_one (ap head (sym h.0 ∙ (f.4 holds).0)))));
-              makes = all_set (λ j u. u.live ≡ true → Makes start journal k.count j u) s.views seat w (λ _. k.makes seat v at live) (λ j u other e. k.makes j u e);
-              gathered = all_set (λ j u. u.live ≡ true → Each (IsGathered views k.log) u.gathered) s.views seat w
-                  (λ _. every _ _ (still_gathered s.views k.log seat v w at live) v.gathered (k.gathered seat v at live))
-                  (λ j u other e alive. every _ _ (still_gathered s.views k.log seat v w at live) u.gathered (k.gathered j u e alive));
-              below = k.below;
-              few = k.few;
-            },
-            (x, refl, (refl, subst (IsFront v.known.seen) (sym h.3) fv.2, fv.3 ∙ ap (λ n. own_of n k.log) (sym fv.0) ∙ ap (own_of v.known.number) (sym h.3), h.4 ∙ sym fv.1)),
-          ))
+      let x = h.1 in let w : V = holding v (journal x) in let fv = k.fits seat v at live in
+      let views = set s.views seat w in
+      owes begun passes s.views seat (v, []) (λ n. either (n == 0) 1 n) (taking start journal (step slots 0 0 1 none) (v, [])) s.words (0 ∷ []) s.homes (some (Some x) ∷ []) h.0 h.2 (
+        w,
+        takes 0 (Some x),
+        refl,
+        record {
+          log = k.log;
+          holder = seat;
+          count = k.count;
+          counted = length-set s.views seat w ∙ k.counted;
+          value = inr (refl, refl, w, set_here s.views seat w (at_inside s.views seat v at), live, refl);
+          fits = all_set (λ j u. u.live ≡ true → Fits start journal begun (1 ∷ []) k.log seat j u) s.views seat w
+              (λ _. (fv.0, fv.1, front_same h.3, fv.3, λ _. (refl, refl, h.3)))
+              (λ j u other e alive. let f = k.fits j u e alive in (f.0, f.1, f.2, f.3, λ holds. absurd (zero_isn't_one (ap head (sym h.0 ∙ (f.4 holds).0)))));
+          makes = all_set (λ j u. u.live ≡ true → Makes start journal k.count j u) s.views seat w (λ _. k.makes seat v at live) (λ j u other e. k.makes j u e);
+          gathered = all_set (λ j u. u.live ≡ true → Each (IsGathered views k.log) u.gathered) s.views seat w
+              (λ _. every _ _ (still_gathered s.views k.log seat v w at live) v.gathered (k.gathered seat v at live))
+              (λ j u other e alive. every _ _ (still_gathered s.views k.log seat v w at live) u.gathered (k.gathered j u e alive));
+          below = k.below;
+          few = k.few;
+        },
+        (x, refl, (refl, subst (IsFront v.known.seen) (sym h.3) fv.2, fv.3 ∙ ap (λ n. own_of n k.log) (sym fv.0) ∙ ap (own_of v.known.number) (sym h.3), h.4 ∙ sym fv.1)),
+      ))
       (λ (h : IsTaken start journal k.holder s.words s.homes s.views).
-          owes begun passes s.views seat (v, []) (λ n. either (n == 0) 1 n) (taking start journal (step slots 0 0 1 none) (v, [])) s.words (1 ∷ []) s.homes s.homes h.0 refl
-          (
-            v,
-            keeps,
-            tt,
-            subst (λ (y : List ℕ × List V). Kept start journal begun passes record { words = y.0; homes = s.homes; views = y.1 }) (λ i. (h.0 i, sym (set_again s.views seat v at) i)) k,
-            refl,
-          ))
+      owes begun passes s.views seat (v, []) (λ n. either (n == 0) 1 n) (taking start journal (step slots 0 0 1 none) (v, [])) s.words (1 ∷ []) s.homes s.homes h.0 refl (
+        v,
+        keeps,
+        tt,
+        subst (λ (y : List ℕ × List V). Kept start journal begun passes record { words = y.0; homes = s.homes; views = y.1 }) (λ i. (h.0 i, sym (set_again s.views seat v at) i)) k,
+        refl,
+      ))
       k.value
 
   pub takes_turn : (begun : G) (passes slots seat : ℕ) (me : Me (Option S) V) → me.0.live ≡ true → me.0.holds ≡ false → me.1 ≡ []
       → Allows (Kept start journal begun passes) slots seat me 0 (λ n. either (n == 0) 1 n) (taking start journal (step slots 0 0 1 none) me)
   takes_turn begun passes slots seat me live waits empty =
       subst (λ (c : List (ℕ × Option S)). Allows (Kept start journal begun passes) slots seat (me.0, c) 0 (λ n. either (n == 0) 1 n) (taking start journal (step slots 0 0 1 none) (me.0, c)))
-          (sym empty) (takes_from begun passes slots seat me.0 live waits)
+      (sym empty) (takes_from begun passes slots seat me.0 live waits)
 
   -- what a try tells that found the turn free
   pub took : (st : Step (Option S)) (before after : Me (Option S) V) (found : ℕ) → found ≡ 0 → taking start journal st before found after
@@ -210,8 +208,7 @@ module _ {S T G : Type 0} (start : S → G) (journal : S → List (Made T)) wher
       → list_all (λ e. e.by == seat) fresh ≡ true
       → (k : Known T) → IsGathered views log k → IsGathered (set views seat w) (log ++ fresh) k
   gathered_on views log fresh seat v w at live mine k g =
-      let other = apart views log seat v w k at live g in
-      (
+      let other = apart views log seat v w k at live g in (
         (g.0.0, set_else views seat k.number w other ∙ g.0.1, g.0.2),
         front_on k.seen log fresh g.1,
         g.2 ∙ sym (own_stays k.number seat log fresh other mine),
@@ -232,36 +229,35 @@ module _ {S T G : Type 0} (start : S → G) (journal : S → List (Made T)) wher
       ⊎_elim
       (λ (h : IsFree start journal begun s.words s.homes k.log). absurd (zero_isn't_one (ap head (sym h.0 ∙ held.0))))
       (λ (h : IsTaken start journal k.holder s.words s.homes s.views).
-          owes begun passes s.views seat (v, (0, Some x) ∷ []) (λ _. 0) (λ _. releasing start journal (step slots 0 0 0 none) (v, (0, Some x) ∷ []) 0) s.words (1 ∷ []) s.homes (none ∷ []) h.0 h.1
-          (
-            w,
-            gives,
-            tt,
-            record {
-              log = log;
-              holder = 0;
-              count = k.count;
-              counted = length-set s.views seat w ∙ k.counted;
-              value = inl (refl, x, refl, refl, began ∙ fv.1);
-              fits = all_set (λ j u. u.live ≡ true → Fits start journal begun (0 ∷ []) log 0 j u) s.views seat w
-                  (λ _. (fv.0, fv.1, front_same refl, ap (λ n. own_of n log) fv.0, λ no_longer. absurd (true≢false (sym no_longer))))
-                  (λ j u other e alive. let f = k.fits j u e alive in (
-                    f.0,
-                    f.1,
-                    subst (IsFront u.known.seen) (sym longer) (front_on u.known.seen k.log fresh f.2),
-                    f.3 ∙ sym (own_stays j seat k.log fresh other mine) ∙ ap (own_of j) (sym longer),
-                    λ too. absurd (other ((f.4 too).1 ∙ sym held.1)),
-                  ));
-              makes = all_set (λ j u. u.live ≡ true → Makes start journal k.count j u) s.views seat w (λ _. k.makes seat v at live) (λ j u other e. k.makes j u e);
-              gathered = subst (λ l. AtEach (λ j u. u.live ≡ true → Each (IsGathered views l) u.gathered) views) (sym longer)
-                  (all_set (λ j u. u.live ≡ true → Each (IsGathered views (k.log ++ fresh)) u.gathered) s.views seat w
-                      (λ _. every _ _ (gathered_on s.views k.log fresh seat v w at live mine) v.gathered (k.gathered seat v at live))
-                      (λ j u other e alive. every _ _ (gathered_on s.views k.log fresh seat v w at live mine) u.gathered (k.gathered j u e alive)));
-              below = subst (Below start journal k.count) (sym longer) (each_append _ k.log fresh k.below (below_count seat k.count fresh (let i = at_inside s.views seat v at in let c = k.counted in omega arith) mine));
-              few = k.few;
-            },
-            refl,
-          ))
+      owes begun passes s.views seat (v, (0, Some x) ∷ []) (λ _. 0) (λ _. releasing start journal (step slots 0 0 0 none) (v, (0, Some x) ∷ []) 0) s.words (1 ∷ []) s.homes (none ∷ []) h.0 h.1 (
+        w,
+        gives,
+        tt,
+        record {
+          log = log;
+          holder = 0;
+          count = k.count;
+          counted = length-set s.views seat w ∙ k.counted;
+          value = inl (refl, x, refl, refl, began ∙ fv.1);
+          fits = all_set (λ j u. u.live ≡ true → Fits start journal begun (0 ∷ []) log 0 j u) s.views seat w
+              (λ _. (fv.0, fv.1, front_same refl, ap (λ n. own_of n log) fv.0, λ no_longer. absurd (true≢false (sym no_longer))))
+              (λ j u other e alive. let f = k.fits j u e alive in (
+                f.0,
+                f.1,
+                subst (IsFront u.known.seen) (sym longer) (front_on u.known.seen k.log fresh f.2),
+                f.3 ∙ sym (own_stays j seat k.log fresh other mine) ∙ ap (own_of j) (sym longer),
+                λ too. absurd (other ((f.4 too).1 ∙ sym held.1)),
+              ));
+          makes = all_set (λ j u. u.live ≡ true → Makes start journal k.count j u) s.views seat w (λ _. k.makes seat v at live) (λ j u other e. k.makes j u e);
+          gathered = subst (λ l. AtEach (λ j u. u.live ≡ true → Each (IsGathered views l) u.gathered) views) (sym longer)
+              (all_set (λ j u. u.live ≡ true → Each (IsGathered views (k.log ++ fresh)) u.gathered) s.views seat w
+              (λ _. every _ _ (gathered_on s.views k.log fresh seat v w at live mine) v.gathered (k.gathered seat v at live))
+              (λ j u other e alive. every _ _ (gathered_on s.views k.log fresh seat v w at live mine) u.gathered (k.gathered j u e alive)));
+          below = subst (Below start journal k.count) (sym longer) (each_append _ k.log fresh k.below (below_count seat k.count fresh (let i = at_inside s.views seat v at in let c = k.counted in omega arith) mine));
+          few = k.few;
+        },
+        refl,
+      ))
       k.value
 
   pub gives_turn : (begun : G) (passes slots seat : ℕ) (me : Me (Option S) V) (v : V) (x : S) (number : ℕ) (c : List (ℕ × Option S)) → me ≡ (v, (0, Some x) ∷ c) → c ≡ [] → v.live ≡ true → v.holds ≡ true
@@ -269,7 +265,7 @@ module _ {S T G : Type 0} (start : S → G) (journal : S → List (Made T)) wher
       → Allows (Kept start journal begun passes) slots seat me 0 (λ _. 0) (λ _. releasing start journal (step slots 0 0 0 none) me 0)
   gives_turn begun passes slots seat me v x number c is none_else live holds numbered began grows =
       subst (λ (m : Me (Option S) V). Allows (Kept start journal begun passes) slots seat m 0 (λ _. 0) (λ _. releasing start journal (step slots 0 0 0 none) m 0))
-          (sym (is ∙ ap (λ l. (v, (0, Some x) ∷ l)) none_else)) (gives_from begun passes slots seat v x live holds (subst (λ n. Grows n v.known.seen (journal x)) (sym numbered) grows) began)
+      (sym (is ∙ ap (λ l. (v, (0, Some x) ∷ l)) none_else)) (gives_from begun passes slots seat v x live holds (subst (λ n. Grows n v.known.seen (journal x)) (sym numbered) grows) began)
 
   longer_gathered : (cut : List V) (right : V) (log : List (Made T)) (g : Known T) → IsGathered cut log g → IsGathered (cut ++ right ∷ []) log g
   longer_gathered cut right log g is = ((is.0.0, at_longer cut (right ∷ []) g.number is.0.0 is.0.1, is.0.2), is.1, is.2)
@@ -293,20 +289,20 @@ module _ {S T G : Type 0} (start : S → G) (journal : S → List (Made T)) wher
         counted = length_snoc cut right ∙ ap (λ n. n + 1) long;
         value = ⊎_elim inl
             (λ (h : IsTaken start journal k.holder s.words s.homes s.views).
-                let here : k.holder ≢ seat = λ is. true≢false (sym h.5 ∙ ap (λ (y : V). y.holds) (some-injective h.2 v (sym h.3 ∙ ap (get_elem? s.views) is ∙ at)) ∙ waits) in
-                inr (h.0, h.1, h.2, at_longer cut (right ∷ []) k.holder h.2 (set_else s.views seat k.holder left here ∙ h.3), h.4, h.5))
+            let here : k.holder ≢ seat = λ is. true≢false (sym h.5 ∙ ap (λ (y : V). y.holds) (some-injective h.2 v (sym h.3 ∙ ap (get_elem? s.views) is ∙ at)) ∙ waits) in
+            inr (h.0, h.1, h.2, at_longer cut (right ∷ []) k.holder h.2 (set_else s.views seat k.holder left here ∙ h.3), h.4, h.5))
             k.value;
         fits = both (λ j u. u.live ≡ true → Fits start journal begun s.words k.log k.holder j u)
             (all_set (λ j u. u.live ≡ true → Fits start journal begun s.words k.log k.holder j u) s.views seat left (λ _. fv) (λ j u other e. k.fits j u e))
             (λ _. (made.0, fv.1, fv.2, sym (own_none k.count k.log k.below), λ no. absurd (true≢false (sym no))));
         makes = both (λ j u. u.live ≡ true → Makes start journal (k.count + 1) j u)
             (all_set (λ j u. u.live ≡ true → Makes start journal (k.count + 1) j u) s.views seat left (λ _ _. (ap (λ n. n + 1) made.0, made.1))
-                (λ j u other e alive too. absurd (other ((k.makes j u e alive too).1 ∙ sym made.1))))
+            (λ j u other e alive too. absurd (other ((k.makes j u e alive too).1 ∙ sym made.1))))
             (λ _ no. absurd (true≢false (sym no)));
         gathered = both (λ j u. u.live ≡ true → Each (IsGathered views k.log) u.gathered)
             (all_set (λ j u. u.live ≡ true → Each (IsGathered views k.log) u.gathered) s.views seat left
-                (λ _. every _ _ (λ g is. longer_gathered cut right k.log g (still_gathered s.views k.log seat v left at live g is)) v.gathered (k.gathered seat v at live))
-                (λ j u other e alive. every _ _ (λ g is. longer_gathered cut right k.log g (still_gathered s.views k.log seat v left at live g is)) u.gathered (k.gathered j u e alive)))
+            (λ _. every _ _ (λ g is. longer_gathered cut right k.log g (still_gathered s.views k.log seat v left at live g is)) v.gathered (k.gathered seat v at live))
+            (λ j u other e alive. every _ _ (λ g is. longer_gathered cut right k.log g (still_gathered s.views k.log seat v left at live g is)) u.gathered (k.gathered j u e alive)))
             (λ _. tt);
         below = every _ _ (λ e less. omega arith) k.log k.below;
         few = let m = made.0 in omega arith;
@@ -323,10 +319,10 @@ module _ {S T G : Type 0} (start : S → G) (journal : S → List (Made T)) wher
       let fw = k.fits other w was live' in
       let All_of : (ℕ → V → Type 0) → Type 0 = λ F. ((j : ℕ) (u : V) → get_elem? s.views j ≡ some u → u.live ≡ true → F j u) in
       let keep : (F : ℕ → V → Type 0) → F seat both → ((j : ℕ) (u : V) → get_elem? s.views j ≡ some u → u.live ≡ true → F j u) → (j : ℕ) (u : V) → get_elem? views j ≡ some u → u.live ≡ true → F j u =
-          λ F mine old. all_set (λ j u. u.live ≡ true → F j u) mid other none_left (λ no. absurd (true≢false (sym no)))
-              (λ j u apart_from e. all_set (λ j u. u.live ≡ true → F j u) s.views seat both (λ _. mine) (λ j u apart_too e alive. old j u e alive) j u e) in
+      λ F mine old. all_set (λ j u. u.live ≡ true → F j u) mid other none_left (λ no. absurd (true≢false (sym no)))
+      (λ j u apart_from e. all_set (λ j u. u.live ≡ true → F j u) s.views seat both (λ _. mine) (λ j u apart_too e alive. old j u e alive) j u e) in
       let still : (g : Known T) → IsGathered s.views k.log g → IsGathered views k.log g = λ g is.
-          still_gathered mid k.log other w none_left at' live' g (still_gathered s.views k.log seat v both at live g is) in
+      still_gathered mid k.log other w none_left at' live' g (still_gathered s.views k.log seat v both at live g is) in
       let taken : IsGathered views k.log w.known = ((none_left, ap (get_elem? views) fw.0 ∙ set_here mid other none_left (at_inside mid other w at'), refl), fw.2, fw.3 ∙ ap (λ n. own_of n k.log) (sym fw.0)) in
       record {
         log = k.log;
@@ -335,9 +331,9 @@ module _ {S T G : Type 0} (start : S → G) (journal : S → List (Made T)) wher
         counted = length-set mid other none_left ∙ length-set s.views seat both ∙ k.counted;
         value = ⊎_elim inl
             (λ (h : IsTaken start journal k.holder s.words s.homes s.views).
-                let here : k.holder ≢ seat = λ is. true≢false (sym h.5 ∙ ap (λ (y : V). y.holds) (some-injective h.2 v (sym h.3 ∙ ap (get_elem? s.views) is ∙ at)) ∙ waits) in
-                let there : k.holder ≢ other = λ is. true≢false (sym h.5 ∙ ap (λ (y : V). y.holds) (some-injective h.2 w (sym h.3 ∙ ap (get_elem? s.views) is ∙ was)) ∙ waits') in
-                inr (h.0, h.1, h.2, set_else mid other k.holder none_left there ∙ set_else s.views seat k.holder both here ∙ h.3, h.4, h.5))
+            let here : k.holder ≢ seat = λ is. true≢false (sym h.5 ∙ ap (λ (y : V). y.holds) (some-injective h.2 v (sym h.3 ∙ ap (get_elem? s.views) is ∙ at)) ∙ waits) in
+            let there : k.holder ≢ other = λ is. true≢false (sym h.5 ∙ ap (λ (y : V). y.holds) (some-injective h.2 w (sym h.3 ∙ ap (get_elem? s.views) is ∙ was)) ∙ waits') in
+            inr (h.0, h.1, h.2, set_else mid other k.holder none_left there ∙ set_else s.views seat k.holder both here ∙ h.3, h.4, h.5))
             k.value;
         fits = keep (Fits start journal begun s.words k.log k.holder) (k.fits seat v at live) k.fits;
         makes = keep (Makes start journal k.count) (k.makes seat v at live) k.makes;

@@ -21,6 +21,9 @@ cell_code {G} code =
     code_by (TableId × (G × ℕ)) (coded× table_id_coded (coded× code coded_ℕ))
     (λ c. (c.cell, (c.start, c.passes))) (λ p. record { cell = p.0; start = p.1.0; passes = p.1.1 }) (λ _. refl)
 
+abbrev pub cell_of : {G : Type 0} → TableId → G → ℕ → Cell G
+cell_of cell start passes = record { cell = cell; start = start; passes = passes }
+
 -- the cell whose turn it is, the number of the pass that holds it, and the value
 pub record Held (S : Type 0) : Type 0 where
   pub cell : TableId
@@ -82,7 +85,8 @@ module _ {T G : Type 0} where
   AreAlong passes = Each (λ p. Each (λ q. IsFront p.seen q.seen ⊎ IsFront q.seen p.seen) passes) passes
 
   -- the value that a cell ends with
-  pub record IsEnd {S : Type 0} (start : S → G) (journal : S → List (Made T)) (cell : Cell G) (passes : List (Sight T G)) (story : S) : Type 0 where
+  pub record IsEnd {S : Type 0} (start : S → G) (journal : S → List (Made T))
+      (cell : Cell G) (passes : List (Sight T G)) (story : S) : Type 0 where
     pub start_stays : start story ≡ cell.start
     pub known : Each (IsKnownOf (journal story)) passes
     pub along : AreAlong passes

@@ -7,6 +7,10 @@ module _ {T : Type 0} where
   abbrev pub made : ℕ → T → Made T
   made by step = record { by = by; step = step }
 
+  -- the journal has this step behind what it had
+  abbrev pub Adds : Made T → List (Made T) → List (Made T) → Type 0
+  Adds step before after = after ≡ before ++ step ∷ []
+
   -- the steps that the pass of this number made, in their order
   abbrev pub own_of : ℕ → List (Made T) → List (Made T)
   own_of number journal = filter (λ e. e.by == number) journal

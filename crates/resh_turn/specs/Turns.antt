@@ -1,5 +1,5 @@
 -- The rule of a cell with turns: of its word, of its slot, and of what each pass knows.
-use Rattle.std.specs.Prelude.{◌≡◌, ◌≢◌, ℕ, ◌+◌, ◌<◌, ◌≤◌, Bool, true, false, List, [], ◌∷◌, ◌++◌, length, Option, Some, None, ◌==◌, ◌⊎◌, MatchBool}
+use Rattle.std.specs.Prelude.{◌≡◌, Bool, ℕ, ◌+◌, ◌<◌, ◌≤◌, true, false, List, [], ◌∷◌, length, Option, Some, None, ◌==◌, ◌⊎◌, MatchBool}
 use mathlib.Core.Option.{some, none, Option as Maybe}
 use lib.ListN.{get_elem?}
 use Rattle.atomic_table.specs.Table.{State, Me, Step}
@@ -8,17 +8,25 @@ use Rattle.resh_turn.specs.declared.rule.Known.{Known}
 use Rattle.resh_turn.specs.declared.rule.View.{View}
 use Rattle.resh_turn.specs.Replay.{own_of, IsFront, Each}
 
+abbrev pub known : {T : Type 0} → ℕ → List (Made T) → List (Made T) → Known T
+known number seen own = record { number = number; seen = seen; own = own }
+
+-- a view with no pass taken in
+abbrev pub view : {T G : Type 0} → Bool → Bool → Option G → Known T → ℕ → View T G
+view live makes begun k count =
+    record { live = live; holds = false; makes = makes; begun = begun; known = k; made = count; gathered = [] }
+
 module _ {T G : Type 0} where
   -- the pass that the cell is made with, once there are so many
   abbrev pub opening : G → ℕ → View T G
-  opening begun count = record { live = true; holds = false; makes = true; begun = Some begun; known = record { number = 0; seen = []; own = [] }; made = count; gathered = [] }
+  opening begun count = view true true (Some begun) (known 0 [] []) count
 
   abbrev pub opened : G → View T G
   opened begun = opening begun 1
 
   -- a new pass, whose number is that of those before it
   abbrev pub newcomer : View T G → View T G
-  newcomer v = record { live = true; holds = false; makes = false; begun = v.begun; known = record { number = v.made; seen = v.known.seen; own = [] }; made = 0; gathered = [] }
+  newcomer v = view v.live false v.begun (known v.made v.known.seen []) 0
 
   abbrev pub with_one_more : View T G → View T G
   with_one_more v = record v { made = v.made + 1 }
@@ -27,7 +35,7 @@ module _ {T G : Type 0} where
   gathering v w = record v { gathered = w.known ∷ v.gathered }
 
   abbrev pub spent : View T G
-  spent = record { live = false; holds = false; makes = false; begun = None; known = record { number = 0; seen = []; own = [] }; made = 0; gathered = [] }
+  spent = view false false None (known 0 [] []) 0
 
   -- what the holder knows: the journal that it found
   abbrev pub holding : View T G → List (Made T) → View T G
@@ -35,7 +43,7 @@ module _ {T G : Type 0} where
 
   -- what a pass knows that has put the value back
   abbrev pub returned : View T G → List (Made T) → View T G
-  returned v journal = record v { holds = false; known = record { number = v.known.number; seen = journal; own = own_of v.known.number journal } }
+  returned v journal = record v { holds = false; known = known v.known.number journal (own_of v.known.number journal) }
 
   -- what was taken in: the pass has stopped, and what it knew of the journal is so
   abbrev pub IsGathered : List (View T G) → List (Made T) → Known T → Type 0
@@ -68,15 +76,19 @@ module _ {S T G : Type 0} (start : S → G) (journal : S → List (Made T)) wher
   abbrev pub Below : ℕ → List (Made T) → Type 0
   Below count log = Each (λ e. e.by < count) log
 
+  -- each pass that wasn't taken in
+  abbrev pub AtEach : List (View T G) → (ℕ → View T G → Type 0) → Type 0
+  AtEach views P = (seat : ℕ) (v : View T G) → get_elem? views seat ≡ some v → v.live ≡ true → P seat v
+
   pub record Kept (begun : G) (passes : ℕ) (s : State (Option S) (View T G)) : Type 0 where
     pub log : List (Made T)
     pub holder : ℕ
     pub count : ℕ
     pub counted : length s.views ≡ count
     pub value : IsFree begun s.words s.homes log ⊎ IsTaken holder s.words s.homes s.views
-    pub fits : (seat : ℕ) (v : View T G) → get_elem? s.views seat ≡ some v → v.live ≡ true → Fits begun s.words log holder seat v
-    pub makes : (seat : ℕ) (v : View T G) → get_elem? s.views seat ≡ some v → v.live ≡ true → Makes count seat v
-    pub gathered : (seat : ℕ) (v : View T G) → get_elem? s.views seat ≡ some v → v.live ≡ true → Each (IsGathered s.views log) v.gathered
+    pub fits : AtEach s.views (Fits begun s.words log holder)
+    pub makes : AtEach s.views (Makes count)
+    pub gathered : AtEach s.views (λ _ v. Each (IsGathered s.views log) v.gathered)
     pub below : Below count log
     pub few : count ≤ passes
 

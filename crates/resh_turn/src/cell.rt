@@ -1,7 +1,7 @@
 //! The cell whose value threads change in turn, and the hold of a turn.
 
 ghost use Rattle.std.specs.Prelude.{◌≡◌, ◌+◌, ◌<◌, ◌≤◌, true, false, [], ◌∷◌, ◌++◌, length, map, Some, None, IfOk, IfErr, OnErr, IsOk, MatchResult};
-ghost use Rattle.resh_turn.specs.Replay.{Each, IsFront, made, own_of, replay};
+ghost use Rattle.resh_turn.specs.Replay.{Adds, Each, IsFront, made, own_of, replay};
 ghost use Rattle.resh_turn.specs.Held.{AreAlong, IsEnd, IsKnownOf, given_back, has_all, known_of, numbered, unused};
 ghost use Rattle.resh_turn.specs.Turns.{opening};
 
@@ -32,15 +32,16 @@ pub struct TurnCell<S: Journal> {
 
 impl<S: Journal> Model for TurnCell<S> {
     ghost use Rattle.std.specs.Prelude.{◌≡◌, ◌<◌};
-    ghost use Rattle.resh_turn.specs.Held.{Cell, cell_code};
+    ghost use Rattle.resh_turn.specs.Held.{Cell, cell_code, cell_of};
 
     ghost Value = { Cell S.State };
 
     ghost coded = { cell_code S.State.code };
 
-    ghost view = { λ t. record { cell = t.table.shared.table_id; start = S.start t.table.shared.key.value.value; passes = t.passes } };
+    ghost view = { λ t. cell_of t.table.shared.table_id (S.start t.table.shared.key.value.value) t.passes };
 
-    ghost invariant = { λ t. (0 < t.passes) × (t.passes ≡ t.table.shared.key.passes) × (t.table.shared.table_id.words ≡ 1) × (t.table.shared.table_id.slots ≡ 1) };
+    ghost invariant = { λ t. (0 < t.passes) × (t.passes ≡ t.table.shared.key.passes)
+        × (t.table.shared.table_id.words ≡ 1) × (t.table.shared.table_id.slots ≡ 1) };
 }
 
 /// The turn of a cell, with its value. End it by `give`.
@@ -61,16 +62,13 @@ impl<'a, S: Journal> Model for Hold<'a, S> {
 
     ghost view = { λ h. record { cell = h.seat.table_id; number = h.number; story = h.story } };
 
-    ghost invariant = { λ h. (h.seat.table_id ≡ h.cell.now.cell) × IsHeld S.start S.journal h.number h.seat.me h.story };
+    ghost invariant = { λ h. (h.seat.table_id ≡ h.cell.now.cell)
+        × IsHeld S.start S.journal h.number h.seat.me h.story };
 }
 
 impl<S: Journal> TurnCell<S> {
     /// A cell that holds the value, and so many passes, or want of memory.
-    pub fn make(
-        alloc: Global,
-        start: S,
-        passes: u32,
-    ) -> Result<(TurnCell<S>, Passes<S>), NoMemory>
+    pub fn make(alloc: Global, start: S, passes: u32) -> Result<(TurnCell<S>, Passes<S>), NoMemory>
         requires some { 0 < passes }
         requires fresh { S.journal start ≡ [] }
         ensures cell { IfOk result (λ made. (made.0.start ≡ S.start start) × (made.0.passes ≡ passes)) }
@@ -160,11 +158,7 @@ impl<S: Journal> TurnCell<S> {
     }
 
     // The pass of this number, made by the first one.
-    fn another(
-        &self,
-        first: &mut TurnSeat<S>,
-        number: u32,
-    ) -> Pass<S>
+    fn another(&self, first: &mut TurnSeat<S>, number: u32) -> Pass<S>
         requires cell { first.old.table_id ≡ self.now.cell }
         requires first { first.old.me ≡ (opening self.now.start number, []) }
         requires room { number < self.now.passes }
@@ -177,14 +171,12 @@ impl<S: Journal> TurnCell<S> {
     }
 
     // The cell with its first pass's seat.
-    fn opened(
-        alloc: Global,
-        start: S,
-        passes: u32,
-    ) -> Result<(TurnCell<S>, TurnSeat<S>), NoMemory>
+    fn opened(alloc: Global, start: S, passes: u32) -> Result<(TurnCell<S>, TurnSeat<S>), NoMemory>
         requires some { 0 < passes }
         requires fresh { S.journal start ≡ [] }
-        ensures { IfOk result (λ made. (made.0.start ≡ S.start start) × (made.0.passes ≡ passes) × (made.1.table_id ≡ made.0.cell) × (made.1.me ≡ (opening (S.start start) 1, []))) }
+        ensures cell { IfOk result (λ made. (made.0.start ≡ S.start start) × (made.0.passes ≡ passes)) }
+        ensures seat { IfOk result (λ made. made.1.table_id ≡ made.0.cell) }
+        ensures first { IfOk result (λ made. made.1.me ≡ (opening (S.start start) 1, [])) }
     {
         let about = Begun {
             value: Snapshot::of(&start),
@@ -239,7 +231,9 @@ fn gathered<S: Journal>(table: &TurnTable<S>, mut passes: Vec<Pass<S>>) -> TurnS
     };
     let mut seat = last.into_seat();
     while let Some(pass) = passes.pop() {
-        table.shared.join_seat::<Gather>(&mut seat, pass.into_seat());
+        table
+            .shared
+            .join_seat::<Gather>(&mut seat, pass.into_seat());
     }
     seat
 }
@@ -290,7 +284,8 @@ impl<'a, S: Story> Hold<'a, S> {
         requires allowed { S.allows (S.state self.old.story) step ≡ true }
         ensures hold { (self.new.cell ≡ self.old.cell) × (self.new.number ≡ self.old.number) }
         ensures start { S.start self.new.story ≡ S.start self.old.story }
-        ensures journal { IfOk result (λ _. S.journal self.new.story ≡ S.journal self.old.story ++ made self.old.number step ∷ []) }
+        ensures journal { IfOk result (λ _. Adds (made self.old.number step) (S.journal self.old.story)
+            (S.journal self.new.story)) }
         ensures answer { IfOk result (λ it. it ≡ S.answer (S.state self.old.story) (made self.old.number step)) }
         ensures used { IfOk result (λ _. S.spare self.new.story + 1 ≡ S.spare self.old.story) }
         ensures same { OnErr result (S.journal self.new.story ≡ S.journal self.old.story) }

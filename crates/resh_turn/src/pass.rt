@@ -34,7 +34,8 @@ impl<S: Journal> Model for Pass<S> {
 impl<S: Journal> Pass<S> {
     pub(crate) fn into_seat(self) -> TurnSeat<S>
         ensures cell { result.table_id ≡ self.cell }
-        ensures waits { (result.me.0.live ≡ true) × (result.me.0.holds ≡ false) × (result.me.1 ≡ []) × (result.me.0.gathered ≡ []) }
+        ensures waits { (result.me.0.live ≡ true) × (result.me.0.holds ≡ false) × (result.me.1 ≡ []) }
+        ensures gathered { result.me.0.gathered ≡ [] }
         ensures known { result.me.0.known ≡ known_of self }
     {
         self.seat

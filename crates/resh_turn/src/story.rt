@@ -1,11 +1,12 @@
 //! What a value is that is shared by turns.
 
 ghost use Rattle.std.specs.Prelude.{◌≡◌, ℕ, ◌+◌, ◌<◌, ◌≤◌, Bool, true, List, [], ◌∷◌, ◌++◌, length, IfOk, OnErr, IsOk};
-ghost use Rattle.resh_turn.specs.Replay.{made, replay};
+ghost use Rattle.resh_turn.specs.Replay.{Adds, made, replay};
 
 use resh_value::NoMemory;
 
-/// A step that was made, and the number of the pass that made it. Contracts alone speak of it.
+/// A step that was made, and the number of the pass that made it.
+#[derive(Drop)]
 pub struct Made<T> {
     pub by: u32,
     pub step: T,
@@ -16,6 +17,7 @@ pub trait Journal: Drop {
     ghost use Rattle.resh_turn.specs.declared.story.Made.{Made};
 
     type Step;
+
     type State;
 
     ghost start: { Self → Self.State };
@@ -58,7 +60,7 @@ pub trait Story: Journal {
         requires room { 0 < spare self.old }
         requires allowed { allows (state self.old) step ≡ true }
         ensures start { Self.start self.new ≡ Self.start self.old }
-        ensures journal { IfOk result (λ _. Self.journal self.new ≡ Self.journal self.old ++ made by step ∷ []) }
+        ensures journal { IfOk result (λ _. Adds (made by step) (Self.journal self.old) (Self.journal self.new)) }
         ensures answer { IfOk result (λ it. it ≡ answer (state self.old) (made by step)) }
         ensures used { IfOk result (λ _. spare self.new + 1 ≡ spare self.old) }
         ensures same { OnErr result (Self.journal self.new ≡ Self.journal self.old) }

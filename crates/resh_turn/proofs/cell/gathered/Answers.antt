@@ -10,13 +10,12 @@ loop-pass-init g c =
     let seat = c.into_seat-seat.ensures in
     let rest = c.pop.new.self.items in
     let known = c.into_seat-seat.result.me.0.known in
-    let cut = last_of (λ pass. pass.cell ≡ c.args.table.now.shared.table_id) c.args.passes.items rest c.in-Some.last is c.requires.cells in
-    (
+    let cut = last_of (λ pass. pass.cell ≡ c.args.table.now.shared.table_id) c.args.passes.items rest c.in-Some.last is c.requires.cells in (
       seat.cell ∙ cut.0,
       seat.waits.0,
       seat.waits.1,
       goes_over (map known_of c.args.passes.items) c.args.passes.items rest c.in-Some.last [] known is seat.known (sym (append-nil (map known_of c.args.passes.items)))
-      ∙ ap (λ g. map known_of rest ++ (g ++ known ∷ [])) (sym seat.waits.3),
+          ∙ ap (λ g. map known_of rest ++ (g ++ known ∷ [])) (sym seat.gathered),
       cut.1,
     )
 

@@ -1,4 +1,4 @@
-use Rattle.std.proofs.Common.{◌≡◌, true, false, [], ◌∷◌, ◌++◌, map, length}
+use Rattle.std.proofs.Common.{◌≡◌, true, false, [], ◌∷◌, ◌++◌, map}
 use Rattle.resh_turn.specs.Replay.{Each}
 use Rattle.resh_turn.specs.Held.{known_of}
 use Rattle.resh_turn.proofs.cell.gathered.Given as goal

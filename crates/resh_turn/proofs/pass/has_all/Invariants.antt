@@ -1,4 +1,4 @@
-use Rattle.std.proofs.Common.{◌≡◌, ◌≤◌}
+use Rattle.std.proofs.Common.{◌≡◌}
 use Rattle.resh_turn.specs.Held.{has_all}
 use Rattle.resh_turn.proofs.pass.has_all.Given as goal
 

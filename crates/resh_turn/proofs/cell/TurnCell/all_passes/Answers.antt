@@ -1,4 +1,4 @@
-use Rattle.std.proofs.Common.{rules, arith, ◌<◌, ◌≤◌, ◌+◌}
+use Rattle.std.proofs.Common.{rules, arith}
 use Rattle.resh_turn.proofs.Numbering.{pushed}
 use Rattle.resh_turn.proofs.cell.TurnCell.all_passes.Goals as goal
 

@@ -1,4 +1,4 @@
-use Rattle.std.proofs.Common.{◌-◌, ◌≡◌, ◌<◌, ◌≤◌, [], ◌+◌}
+use Rattle.std.proofs.Common.{◌-◌, ◌≡◌, ◌<◌, ◌≤◌, []}
 use Rattle.resh_turn.specs.Held.{numbered}
 use Rattle.resh_turn.specs.Turns.{opening}
 use Rattle.resh_turn.proofs.cell.TurnCell.all_passes.Given as goal

@@ -1,4 +1,4 @@
-use Rattle.std.proofs.Common.{rules, ◌≡◌, ◌∙◌, ap, sym, subst, true}
+use Rattle.std.proofs.Common.{◌≡◌, sym, subst, true}
 use Rattle.resh_turn.specs.Replay.{Each}
 use Rattle.resh_turn.specs.Held.{Cell, has_all}
 use Rattle.resh_turn.proofs.Ending.{some_pass, ends, is_there, is_end}

@@ -1,4 +1,4 @@
-use Rattle.std.proofs.Common.{rules, ap, subst, sym, ◌≡◌, ◌∙◌, List, [], ◌∷◌, Option, Some}
+use Rattle.std.proofs.Common.{rules}
 use Rattle.resh_turn.proofs.Steps.{begins_at}
 use Rattle.resh_turn.proofs.cell.TurnCell.opened.Goals as goal
 
