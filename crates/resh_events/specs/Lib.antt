@@ -1,0 +1,6 @@
+pub mod Cells
+pub mod Clocks
+pub mod Opening
+pub mod Targets
+pub mod rows
+pub mod Table

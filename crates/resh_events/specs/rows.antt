@@ -1,0 +1,15 @@
+pub mod Client
+pub mod Refused
+pub mod Begin
+pub mod Tell
+pub mod Retell
+pub mod Advance
+pub mod Clone
+pub mod Fetch
+pub mod Cut
+pub mod Apply
+pub mod Again
+pub mod Record
+pub mod Crash
+pub mod Report
+pub mod Fail
