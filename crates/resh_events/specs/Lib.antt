@@ -4,3 +4,6 @@ pub mod Opening
 pub mod Targets
 pub mod rows
 pub mod Table
+pub mod Luck
+pub mod Follows
+pub mod Lucks
