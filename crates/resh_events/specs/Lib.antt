@@ -7,3 +7,8 @@ pub mod Table
 pub mod Luck
 pub mod Follows
 pub mod Lucks
+pub mod Bounds
+pub mod Runs
+pub mod Schedules
+pub mod Plans
+pub mod Turns
