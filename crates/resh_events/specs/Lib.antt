@@ -12,3 +12,5 @@ pub mod Runs
 pub mod Schedules
 pub mod Plans
 pub mod Turns
+pub mod Steps
+pub mod Sweep
