@@ -1,6 +1,6 @@
 //! The cell whose value threads change in turn, and the hold of a turn.
 
-ghost use Rattle.std.specs.Prelude.{◌≡◌, ◌+◌, ◌<◌, ◌≤◌, true, false, [], ◌∷◌, ◌++◌, length, map, Some, None, IfOk, IfErr, OnErr, IsOk, MatchResult};
+ghost use Rattle.std.specs.Prelude.{◌≡◌, ◌+◌, ◌<◌, ◌≤◌, true, false, [], ◌∷◌, ◌++◌, length, map, Some, IfOk, IfErr, OnErr, IsOk};
 ghost use Rattle.resh_turn.specs.Replay.{Adds, Each, IsFront, made, own_of, replay};
 ghost use Rattle.resh_turn.specs.Held.{AreAlong, IsEnd, IsKnownOf, given_back, has_all, known_of, numbered, unused};
 ghost use Rattle.resh_turn.specs.Turns.{opening};
@@ -281,16 +281,16 @@ impl<'a, S: Story> Hold<'a, S> {
     /// Makes a step in the name of the pass that holds the turn. After want of memory all is as before.
     pub fn act(&mut self, step: S::Step) -> Result<S::Answer, NoMemory>
         requires room { 0 < S.spare self.old.story }
-        requires allowed { S.allows (S.state self.old.story) step ≡ true }
+        requires allowed { S.allows (S.state self.old.story) step }
         ensures hold { (self.new.cell ≡ self.old.cell) × (self.new.number ≡ self.old.number) }
         ensures start { S.start self.new.story ≡ S.start self.old.story }
         ensures journal { IfOk result (λ _. Adds (made self.old.number step) (S.journal self.old.story)
             (S.journal self.new.story)) }
-        ensures answer { IfOk result (λ it. it ≡ S.answer (S.state self.old.story) (made self.old.number step)) }
+        ensures answer { IfOk result (λ it. S.answers (S.state self.old.story) (made self.old.number step) it) }
         ensures used { IfOk result (λ _. S.spare self.new.story + 1 ≡ S.spare self.old.story) }
         ensures same { OnErr result (S.journal self.new.story ≡ S.journal self.old.story) }
         ensures room_stays { OnErr result (S.spare self.new.story ≡ S.spare self.old.story) }
-        ensures sure { S.sure step ≡ true → IsOk result }
+        ensures sure { S.sure step → IsOk result }
     {
         self.story.act(step, self.number)
     }

@@ -1,7 +1,6 @@
 //! The rule of a cell with turns, and what each of its steps tells.
 
-ghost use Rattle.std.specs.Prelude.{◌≡◌, ℕ, true, false, Some, None, []};
-ghost use Rattle.resh_turn.specs.Turns.{Kept, opened, newcomer, with_one_more, gathering, spent, taking, releasing};
+ghost use Rattle.resh_turn.specs.Turns.{gathering, newcomer, releasing, spent, taking, with_one_more};
 
 use crate::story::{Journal, Made};
 use atomic_table::{Join, Play, Split, TableRule};

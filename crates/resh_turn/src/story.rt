@@ -1,6 +1,6 @@
 //! What a value is that is shared by turns.
 
-ghost use Rattle.std.specs.Prelude.{◌≡◌, ℕ, ◌+◌, ◌<◌, ◌≤◌, Bool, true, List, [], ◌∷◌, ◌++◌, length, IfOk, OnErr, IsOk};
+ghost use Rattle.std.specs.Prelude.{◌≡◌, ℕ, ◌+◌, ◌<◌, ◌≤◌, List, length, IfOk, OnErr, IsOk};
 ghost use Rattle.resh_turn.specs.Replay.{Adds, made, replay};
 
 use resh_value::NoMemory;
@@ -39,14 +39,14 @@ pub trait Story: Journal {
     /// The state after a step.
     ghost next: { Self.State → Made Self.Step → Self.State };
 
-    /// Whether a state allows a step.
-    ghost allows: { Self.State → Self.Step → Bool };
+    /// A state allows a step.
+    ghost allows: { Self.State → Self.Step → Type 0 };
 
     /// What a step answers at a state.
-    ghost answer: { Self.State → Made Self.Step → Self.Answer };
+    ghost answers: { Self.State → Made Self.Step → Self.Answer → Type 0 };
 
-    /// Whether a step can't want memory once it has room.
-    ghost sure: { Self.Step → Bool };
+    /// A step can't want memory once it has room.
+    ghost sure: { Self.Step → Type 0 };
 
     /// Makes room for so many steps.
     fn reserve(&mut self, steps: u64) -> Result<(), NoMemory>
@@ -58,14 +58,14 @@ pub trait Story: Journal {
     /// Makes a step, in the name of a pass. After want of memory all is as before.
     fn act(&mut self, step: Self::Step, by: u32) -> Result<Self::Answer, NoMemory>
         requires room { 0 < spare self.old }
-        requires allowed { allows (state self.old) step ≡ true }
+        requires allowed { allows (state self.old) step }
         ensures start { Self.start self.new ≡ Self.start self.old }
         ensures journal { IfOk result (λ _. Adds (made by step) (Self.journal self.old) (Self.journal self.new)) }
-        ensures answer { IfOk result (λ it. it ≡ answer (state self.old) (made by step)) }
+        ensures answer { IfOk result (λ it. answers (state self.old) (made by step) it) }
         ensures used { IfOk result (λ _. spare self.new + 1 ≡ spare self.old) }
         ensures same { OnErr result (Self.journal self.new ≡ Self.journal self.old) }
         ensures room_stays { OnErr result (spare self.new ≡ spare self.old) }
-        ensures sure { sure step ≡ true → IsOk result };
+        ensures sure { sure step → IsOk result };
 
     /// How many steps were made.
     fn length(&self) -> u64

@@ -6,4 +6,5 @@ use Rattle.resh_turn.proofs.cell.Hold.give.Goals as goal
 pub store-requires : goal.store-requires
 store-requires g c =
     let held = c.self.invariant.1 in
-    (search rules, search rules, gives_turn g.S.Journal.start g.S.Journal.journal _ _ _ _ _ _ _ _ _ c.exchange.ensures.3 (ap rest held.2) held.0 held.1 held.3 held.4 held.5)
+    let seat = c.self.inside.seat in
+    (search rules, search rules, gives_turn g.S.Journal.start g.S.Journal.journal _ _ _ _ c.exchange.new.seat.me seat.me.0 c.self.inside.story c.self.inside.number (rest seat.me.1) c.exchange.ensures.3 (ap rest held.2) held.0 held.1 held.3 held.4 held.5)
