@@ -26,14 +26,11 @@ module _ (setup : Setup) (cluster : Cluster) where
   abbrev pub seen : ℕ → Seen
   seen c = Answered (client.next_number cluster c)
 
-  -- the client, and the coordinator for an abort, else the shards to which the command goes first
+  -- the client, and the coordinator for an abort, else the shards to which the command goes first; once a move has
+  -- begun it holds what the command holds that is answered
   abbrev pub cells_of : ℕ → Option Command → List Cell
   cells_of c None = client_cell c ∷ []
   cells_of c (Some command) = client.cells_for setup cluster c command (first_targets setup cluster c command)
 
   abbrev pub holds : ℕ → List Cell
   holds c = cells_of c (next_command setup cluster c)
-
-  -- once a move has begun also the shard to which the result belongs
-  abbrev pub holds_in_move : ℕ → List Cell
-  holds_in_move c = client.holds setup cluster c
