@@ -3,4 +3,3 @@ pub mod HandedOut
 pub mod SeatClashes
 pub mod SeatedRuns
 pub mod Seating
-pub mod SortedSeats

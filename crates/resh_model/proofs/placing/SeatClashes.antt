@@ -28,7 +28,7 @@ use Rattle.resh_bag.proofs.shards.Parting.{held_document, document_held}
 use Rattle.resh_model.specs.Seats.{target, target_cmp, clash_total, target_total, seat_cmp, seat_total, same_target, IsSeated, IsSeating, TiesAt}
 use Rattle.resh_model.specs.declared.seat.Seat.{Seat}
 use Rattle.resh_model.proofs.placing.Seating.{seat_in_bag, bag_in_seat, seats_differ}
-use Rattle.resh_model.proofs.placing.SortedSeats.{NoneBelow, tied_neighbours}
+use Rattle.resh_value.proofs.SortedLists.{NoneBelow, tied_neighbours}
 
 -- seats of one target and different shards of origin, at two places in order
 record Twins (seats : List Seat) (shard : ℕ) (id : Value) : Type 0 where

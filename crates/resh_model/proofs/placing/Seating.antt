@@ -23,7 +23,7 @@ use Rattle.resh_bag.proofs.bags.Opening.{opens_placed, opens_whole}
 use Rattle.resh_bag.proofs.shards.Parting.{documents_rise}
 use Rattle.resh_model.specs.Seats.{seat_cmp, seat_total, sent_back, handed_out, IsSeated, IsSeating}
 use Rattle.resh_model.specs.declared.seat.Seat.{Seat}
-use Rattle.resh_model.proofs.placing.SortedSeats.{strict_from_distinct}
+use Rattle.resh_value.proofs.SortedLists.{strict_from_distinct}
 
 -- what differs in its last two parts differs
 parts_differ : (r s t : Ordering) → is_eq (ordering_then s t) ≡ false → is_eq (ordering_then (ordering_then r s) t) ≡ false
