@@ -1,7 +1,9 @@
-//! What mailboxes and rounds of jobs do, by example.
+//! What mailboxes, rounds of jobs and turns do, by example.
 #![tactic(auto)]
 
 #[cfg(test)]
 mod mailbox;
 #[cfg(test)]
 mod round;
+#[cfg(test)]
+mod turn;
