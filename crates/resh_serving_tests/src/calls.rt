@@ -1,7 +1,7 @@
 //! What a shard does beside commands: it is cloned, it blocks writes, is released and forgets old versions.
 
 use crate::cluster::{is_next, may_ask, opened};
-use crate::sequences::{MANY, next_command, setup_of};
+use crate::sequences::{next_command, setup_of};
 use resh_cloner::next_batch;
 use resh_shard::{Act, Command, Shard, Which};
 use resh_stamp::Stamp;
@@ -49,7 +49,7 @@ fn is_blocked(act: Act) -> bool {
 #[test]
 fn a_shard_is_cloned_blocked_and_released(rt: HostRuntime) -> Result<(), Fail> {
     let alloc = rt.alloc();
-    let setup = setup_of(alloc, MANY, COMMANDS)?;
+    let setup = setup_of(alloc, "many", COMMANDS)?;
     let mut shard = opened(alloc, &setup)?.into_first()?;
     shard.prepare();
     let delete = next_command(&setup, 0)?;

@@ -10,7 +10,7 @@ use resh_router::{Target, merge_found, target};
 use resh_setup::{Holdings, Setup};
 use resh_shard::{Act, Command, Reply, Shard, TakeIn};
 use resh_stamp::Stamp;
-use resh_value::{Document, Documents, NoMemory, Sequence, ShardId};
+use resh_value::{Document, Documents, NoMemory, ShardId, Value};
 use std::alloc::Global;
 use std::test::Fail;
 
@@ -27,16 +27,8 @@ pub(crate) struct Cluster {
 
 /// The shards of a setup, each with its documents.
 pub(crate) fn opened(alloc: Global, setup: &Setup) -> Result<Cluster, Fail> {
-    let mut shards = Vec::new(alloc);
-    for number in 0..setup.old_map.shards() {
-        let old_map = setup.old_map.copy()?;
-        let new_map = setup.new_map.copy()?;
-        shards.push(Shard::new(alloc, ShardId(number), old_map, new_map, LONGEST_TEXT))?;
-    }
-    for document in setup.documents.as_slice() {
-        let owner = setup.old_map.owner_of(document).0 as usize;
-        load(shards.as_mut_slice(), owner, document.copy()?)?;
-    }
+    let mut shards = empty_shards(alloc, setup)?;
+    load_all(shards.as_mut_slice(), setup)?;
     Ok(Cluster {
         alloc,
         shards,
@@ -44,9 +36,31 @@ pub(crate) fn opened(alloc: Global, setup: &Setup) -> Result<Cluster, Fail> {
     })
 }
 
-fn load(shards: &mut [Shard], owner: usize, document: Document) -> Result<(), Fail> {
+fn empty_shards(alloc: Global, setup: &Setup) -> Result<Vec<Shard>, Fail> {
+    let mut shards = Vec::new(alloc);
+    for number in 0..setup.old_map.shards() {
+        shards.push(empty_shard(alloc, setup, ShardId(number))?)?;
+    }
+    Ok(shards)
+}
+
+fn empty_shard(alloc: Global, setup: &Setup, id: ShardId) -> Result<Shard, NoMemory> {
+    let old_map = setup.old_map.copy()?;
+    let new_map = setup.new_map.copy()?;
+    Ok(Shard::new(alloc, id, old_map, new_map, LONGEST_TEXT))
+}
+
+fn load_all(shards: &mut [Shard], setup: &Setup) -> Result<(), Fail> {
+    for document in setup.documents.as_slice() {
+        let owner = setup.old_map.owner_of(document).0 as usize;
+        load(shards, owner, document)?;
+    }
+    Ok(())
+}
+
+fn load(shards: &mut [Shard], owner: usize, document: &Document) -> Result<(), Fail> {
     match shards.get_mut(owner) {
-        Some(shard) if document.is_whole() => Ok(shard.load(document)?),
+        Some(shard) if document.is_whole() => Ok(shard.load(document.copy()?)?),
         _ => Err(Fail::from("no such document")),
     }
 }
@@ -114,28 +128,28 @@ impl Cluster {
         }
     }
 
-    /// Moves a document to another shard. It is taken in, taken back, and taken in again before it is taken out.
+    /// Moves a document to another shard.
     fn move_to(&mut self, place: usize, target: usize, document: Document) -> Result<Reply, Fail> {
         let stamp = self.stamp();
         let id = document.copy_id(self.alloc)?;
         match self.shards.get_mut(target) {
             None => return Err(Fail::from("no such shard")),
             Some(shard) => {
-                if let TakeIn::Duplicate = take_in(shard, document.copy()?, stamp)? {
+                if let TakeIn::Duplicate = take_in_again(shard, &id, document, stamp)? {
                     return Ok(Reply::Duplicate);
                 }
-                if shard.log().len() == 0 {
-                    return Err(Fail::from("nothing was logged"));
-                }
-                shard.undo_in(&id);
-                take_in(shard, document, stamp)?;
             }
         }
-        match self.shards.get_mut(place) {
-            Some(shard) if is_next(shard, stamp) => shard.take_out(&id, stamp)?,
-            _ => return Err(Fail::from("no such shard")),
-        }
+        self.take_out(place, &id)?;
         Ok(Reply::Matched { changed: true })
+    }
+
+    fn take_out(&mut self, place: usize, id: &Value) -> Result<(), Fail> {
+        let stamp = self.stamp();
+        match self.shards.get_mut(place) {
+            Some(shard) if is_next(shard, stamp) => Ok(shard.take_out(id, stamp)?),
+            _ => Err(Fail::from("no such shard")),
+        }
     }
 
     /// Puts the new map in force, and each document on its new owner.
@@ -144,44 +158,78 @@ impl Cluster {
         let stamp = self.stamp();
         let mut parts = self.parts()?.into_vec();
         for shard in self.shards.iter_mut().rev() {
-            match parts.pop() {
-                Some(part) if are_whole(part.as_slice()) => shard.install(part, stamp)?,
-                _ => return Err(Fail::from("no documents to install")),
-            }
+            install(shard, parts.pop(), stamp)?;
         }
         Ok(())
     }
 
     /// The documents of each shard by the new map.
     fn parts(&self) -> Result<Holdings, Fail> {
-        let mut parts = Vec::new(self.alloc);
+        let mut parts = Holdings::new(self.alloc);
         for number in 0..self.map()?.shards() {
-            let owner = ShardId(number);
-            let mut part = Vec::new(self.alloc);
-            for shard in self.shards.iter() {
-                for document in shard.versions().walk_now(None) {
-                    if shard.new_map().owner_of(document) == owner {
-                        part.push(document.copy()?)?;
-                    }
-                }
-            }
-            parts.push(Sequence::from_vec(part))?;
+            parts.push(self.part(ShardId(number))?)?;
         }
-        Ok(Sequence::from_vec(parts))
+        Ok(parts)
+    }
+
+    fn part(&self, owner: ShardId) -> Result<Documents, Fail> {
+        let mut part = Documents::new(self.alloc);
+        for shard in self.shards.iter() {
+            add_owned(&mut part, shard, owner)?;
+        }
+        Ok(part)
     }
 
     /// The documents that each shard holds.
     pub(crate) fn holdings(&self) -> Result<Holdings, Fail> {
-        let mut holdings = Vec::new(self.alloc);
+        let mut holdings = Holdings::new(self.alloc);
         for shard in self.shards.iter() {
-            let mut held = Vec::new(self.alloc);
-            for document in shard.versions().walk_now(None) {
-                held.push(document.copy()?)?;
-            }
-            holdings.push(Sequence::from_vec(held))?;
+            holdings.push(held(self.alloc, shard)?)?;
         }
-        Ok(Sequence::from_vec(holdings))
+        Ok(holdings)
     }
+}
+
+fn install(shard: &mut Shard, part: Option<Documents>, stamp: Stamp) -> Result<(), Fail> {
+    match part {
+        Some(part) if are_whole(part.as_slice()) => Ok(shard.install(part, stamp)?),
+        _ => Err(Fail::from("no documents to install")),
+    }
+}
+
+/// Adds the documents of a shard that an owner has by the new map.
+fn add_owned(part: &mut Documents, shard: &Shard, owner: ShardId) -> Result<(), Fail> {
+    for document in shard.versions().walk_now(None) {
+        if shard.new_map().owner_of(document) == owner {
+            part.push(document.copy()?)?;
+        }
+    }
+    Ok(())
+}
+
+fn held(alloc: Global, shard: &Shard) -> Result<Documents, Fail> {
+    let mut held = Documents::new(alloc);
+    for document in shard.versions().walk_now(None) {
+        held.push(document.copy()?)?;
+    }
+    Ok(held)
+}
+
+/// A document is taken in, taken back, and taken in again.
+fn take_in_again(
+    shard: &mut Shard,
+    id: &Value,
+    document: Document,
+    stamp: Stamp,
+) -> Result<TakeIn, Fail> {
+    if let TakeIn::Duplicate = take_in(shard, document.copy()?, stamp)? {
+        return Ok(TakeIn::Duplicate);
+    }
+    if shard.log().len() == 0 {
+        return Err(Fail::from("nothing was logged"));
+    }
+    shard.undo_in(id);
+    take_in(shard, document, stamp)
 }
 
 fn take_in(shard: &mut Shard, document: Document, stamp: Stamp) -> Result<TakeIn, Fail> {
