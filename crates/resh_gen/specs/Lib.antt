@@ -1,0 +1,4 @@
+pub mod Draws
+pub mod Documents
+pub mod Commands
+pub mod Generated
