@@ -2,8 +2,12 @@
 use Rattle.std.proofs.Common.{◌≡◌, ℕ, suc, ◌+◌, ◌*◌, ◌/◌, ◌%◌, ◌^◌, List, [], ◌∷◌, ◌++◌, map, refl, ap, sym, ◌∙◌, arith}
 use Rattle.std.proofs.lemmas.List.FromFn.{map-range_with_len_more}
 use Rattle.resh_value.specs.declared.value.Value.{Value}
+use Rattle.resh_command.specs.declared.command.Command.{Command}
 use Rattle.resh_gen.specs.Draws.{next, state_at, drawn}
 use Rattle.resh_gen.specs.Documents.{Document, document, document_at, x_of, y_of, first_documents}
+use Rattle.resh_gen.specs.Commands.{chosen, command_at, first_commands}
+use Rattle.resh_gen.specs.Streams.{Stands}
+use Rattle.resh_gen.specs.declared.commands.Streams.{Streams}
 
 one_more : (n : ℕ) → n + 1 ≡ suc n
 one_more n = omega arith
@@ -51,3 +55,47 @@ pub documents_pushed : (number index : ℕ) (before after : List Document) (d : 
 documents_pushed number index before after d was d_is is =
     is ∙ ap (λ ds. ds ++ d ∷ []) was ∙ ap (λ d. first_documents number index ++ d ∷ []) d_is
     ∙ sym (documents_more number index)
+
+-- the numbers of a command, from where the streams stand
+module _ (number : ℕ) (streams : Streams) (stands : Stands number streams) where
+  module _ (k c : ℕ) (k_is : k ≡ next streams.keys.state) (c_is : c ≡ next streams.choices.state) where
+    abbrev index : ℕ
+    index = streams.index
+
+    pub command_drawn : (x y choice z : ℕ) → x ≡ next streams.keys.state / 2 ^ 33 % 1000 → y ≡ next k / 2 ^ 33 % 1000
+        → choice ≡ next streams.choices.state / 2 ^ 33 % 4 → z ≡ next c / 2 ^ 33 % 1000
+        → chosen choice index x y z ≡ command_at number index
+    command_drawn x y choice z x_is y_is choice_is z_is =
+        ap (λ x. chosen choice index x y z) (drawn_there number (2 * index) _ stands.keys 1000 x x_is)
+        ∙ ap (λ y. chosen choice index (x_of number index) y z)
+          (drawn_there number (2 * index + 1) k (state_after number (2 * index) _ stands.keys k k_is) 1000 y y_is)
+        ∙ ap (λ choice. chosen choice index (x_of number index) (y_of number index) z)
+          (drawn_there number (100000 + 2 * index) _ stands.choices 4 choice choice_is)
+        ∙ ap (chosen (drawn number (100000 + 2 * index) % 4) index (x_of number index) (y_of number index))
+          (drawn_there number (100000 + 2 * index + 1) c (state_after number (100000 + 2 * index) _ stands.choices c c_is) 1000 z z_is
+          ∙ ap (λ place. drawn number place % 1000) (omega arith))
+
+    pub stands_after : (after : Streams) → after.index ≡ index + 1 → after.keys.state ≡ next k → after.choices.state ≡ next c
+        → Stands number after
+    stands_after after is keys_is choices_is = record {
+      keys = state_two_after number index _ stands.keys k k_is _ keys_is ∙ ap (λ index. state_at number (2 * index)) (sym is);
+      choices =
+          state_after number (100000 + 2 * index + 1) c (state_after number (100000 + 2 * index) _ stands.choices c c_is) _ choices_is
+          ∙ ap (state_at number) (omega (arith, is));
+    }
+
+commands_more : (number client turns : ℕ) → first_commands number client (turns + 1)
+    ≡ first_commands number client turns ++ command_at number (4 * turns + client) ∷ []
+unfolding first_commands
+commands_more number client turns = map-range_with_len_more (λ turn. command_at number (4 * turn + client)) 0 turns turns (omega arith)
+
+pub commands_none : (number client : ℕ) → [] ≡ first_commands number client 0
+unfolding first_commands
+commands_none number client = refl
+
+pub commands_pushed : (number client turns index : ℕ) (before after : List Command) → before ≡ first_commands number client turns
+    → index ≡ 4 * turns + client → after ≡ before ++ command_at number index ∷ [] → after ≡ first_commands number client (turns + 1)
+commands_pushed number client turns index before after was at is =
+    is ∙ ap (λ cs. cs ++ command_at number index ∷ []) was
+    ∙ ap (λ i. first_commands number client turns ++ command_at number i ∷ []) at
+    ∙ sym (commands_more number client turns)

@@ -1,4 +1,6 @@
 pub mod Draws
 pub mod Documents
 pub mod Commands
+pub mod Streams
+pub mod Json
 pub mod Generated
