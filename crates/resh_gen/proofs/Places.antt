@@ -1,12 +1,14 @@
 -- From place to place: states, and lists by index.
-use Rattle.std.proofs.Common.{◌≡◌, ℕ, suc, ◌+◌, ◌*◌, ◌/◌, ◌%◌, ◌^◌, List, [], ◌∷◌, ◌++◌, map, refl, ap, sym, ◌∙◌, arith}
+use Rattle.std.proofs.Common.{◌≡◌, ℕ, suc, ◌+◌, ◌*◌, ◌/◌, ◌%◌, ◌^◌, List, [], ◌∷◌, ◌++◌, map, codes, refl, ap, sym, ◌∙◌, arith}
 use Rattle.std.proofs.lemmas.List.FromFn.{map-range_with_len_more}
 use Rattle.resh_value.specs.declared.value.Value.{Value}
 use Rattle.resh_command.specs.declared.command.Command.{Command}
 use Rattle.resh_gen.specs.Draws.{next, state_at, drawn}
 use Rattle.resh_gen.specs.Documents.{Document, document, document_at, x_of, y_of, first_documents}
 use Rattle.resh_gen.specs.Commands.{chosen, command_at, first_commands}
-use Rattle.resh_gen.specs.Streams.{Stands}
+use Rattle.resh_gen.specs.Streams.{AreAsked, Stands}
+use Rattle.resh_gen.specs.Generated.{clients}
+use Rattle.resh_gen.specs.declared.commands.Asked.{Asked}
 use Rattle.resh_gen.specs.declared.commands.Streams.{Streams}
 
 one_more : (n : ℕ) → n + 1 ≡ suc n
@@ -99,3 +101,11 @@ commands_pushed number client turns index before after was at is =
     is ∙ ap (λ cs. cs ++ command_at number index ∷ []) was
     ∙ ap (λ i. first_commands number client turns ++ command_at number i ∷ []) at
     ∙ sym (commands_more number client turns)
+
+pub clients_are : (number : ℕ) (asked : Asked) → AreAsked number 5000 asked
+    → record { name = codes "c0"; commands = asked.first } ∷ record { name = codes "c1"; commands = asked.second }
+      ∷ record { name = codes "c2"; commands = asked.third } ∷ record { name = codes "c3"; commands = asked.fourth } ∷ []
+    ≡ clients number
+clients_are number asked are = λ i.
+    record { name = codes "c0"; commands = are.first i } ∷ record { name = codes "c1"; commands = are.second i }
+    ∷ record { name = codes "c2"; commands = are.third i } ∷ record { name = codes "c3"; commands = are.fourth i } ∷ []

@@ -1,5 +1,5 @@
 -- The setup of a number: 50,000 documents on four shards, resharded onto the next shard, and 20,000 commands.
-use Rattle.std.specs.Prelude.{ℕ, pos, List, [], ◌∷◌, codes}
+use Rattle.std.specs.Prelude.{ℕ, pos, List, [], ◌∷◌, slice_index, codes}
 use Rattle.resh_value.specs.declared.value.ShardId.{ShardId}
 use Rattle.resh_value.specs.declared.value.Value.TheVariants.{Int}
 use Rattle.resh_chunks.specs.Chunks.{Chunks}
@@ -20,14 +20,15 @@ bound_at n = At (Int (pos n) ∷ [])
 abbrev pub chunk : Bound → Bound → ℕ → ChunkRow
 chunk min max shard = record { min = min; max = max; shard = record { 0 = shard } }
 
--- a map over one field, whose four chunks lie on these shards
-abbrev pub map_over : List ℕ → ℕ → ℕ → ℕ → ℕ → Chunks
-map_over name first second third fourth = record {
-    pattern = name ∷ [];
-    rows = chunk Min (bound_at 250) first ∷ chunk (bound_at 250) (bound_at 500) second
-        ∷ chunk (bound_at 500) (bound_at 750) third ∷ chunk (bound_at 750) Max fourth ∷ [];
-    shards = 4;
-  }
+-- four chunks that lie on these shards
+abbrev pub rows_on : List ℕ → List ChunkRow
+rows_on shards =
+    chunk Min (bound_at 250) (slice_index shards 0) ∷ chunk (bound_at 250) (bound_at 500) (slice_index shards 1)
+    ∷ chunk (bound_at 500) (bound_at 750) (slice_index shards 2) ∷ chunk (bound_at 750) Max (slice_index shards 3) ∷ []
+
+-- a map over one field, whose chunks lie on these shards
+abbrev pub map_over : List ℕ → List ℕ → Chunks
+map_over name shards = record { pattern = name ∷ []; rows = rows_on shards; shards = 4 }
 
 abbrev pub client : ℕ → List ℕ → ℕ → Client
 client number name place = record { name = name; commands = first_commands number place 5000 }
@@ -40,8 +41,8 @@ clients number =
 abbrev pub generated : ℕ → Setup
 generated number = record {
     shards = shard_names;
-    old_map = map_over (codes "x") 0 1 2 3;
-    new_map = map_over (codes "y") 1 2 3 0;
+    old_map = map_over (codes "x") (0 ∷ 1 ∷ 2 ∷ 3 ∷ []);
+    new_map = map_over (codes "y") (1 ∷ 2 ∷ 3 ∷ 0 ∷ []);
     documents = first_documents number 50000;
     clients = clients number;
     lanes = 4;

@@ -4,3 +4,6 @@
 mod commands;
 mod documents;
 mod draws;
+mod setup;
+
+pub use setup::generate;
