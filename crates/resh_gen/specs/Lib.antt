@@ -4,3 +4,5 @@ pub mod Commands
 pub mod Streams
 pub mod Json
 pub mod Generated
+pub mod CommandTokens
+pub mod SetupText
