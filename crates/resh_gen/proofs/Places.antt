@@ -1,7 +1,6 @@
 -- From place to place: states, and lists by index.
-use Rattle.std.proofs.Common.{◌≡◌, ℕ, suc, ◌+◌, ◌*◌, ◌/◌, ◌%◌, ◌^◌, List, [], ◌∷◌, ◌++◌, map, codes, refl, ap, sym, ◌∙◌, arith}
+use Rattle.std.proofs.Common.{◌≡◌, ℕ, suc, ◌+◌, ◌*◌, ◌/◌, ◌%◌, ◌^◌, List, [], ◌∷◌, ◌++◌, codes, refl, ap, sym, ◌∙◌, arith}
 use Rattle.std.proofs.lemmas.List.FromFn.{map-range_with_len_more}
-use Rattle.resh_value.specs.declared.value.Value.{Value}
 use Rattle.resh_command.specs.declared.command.Command.{Command}
 use Rattle.resh_gen.specs.Draws.{next, state_at, drawn}
 use Rattle.resh_gen.specs.Documents.{Document, document, document_at, x_of, y_of, first_documents}
@@ -50,7 +49,7 @@ module _ (number index s : ℕ) (was : s ≡ state_at number (2 * index)) (t : �
   document_drawn x y x_is y_is =
       ap (λ x. document index x y) (drawn_there number (2 * index) s was 1000 x x_is)
       ∙ ap (λ y. document index (x_of number index) y)
-        (drawn_there number (2 * index + 1) t (state_after number (2 * index) s was t next_is) 1000 y y_is)
+      (drawn_there number (2 * index + 1) t (state_after number (2 * index) s was t next_is) 1000 y y_is)
 
 pub documents_pushed : (number index : ℕ) (before after : List Document) (d : Document) → before ≡ first_documents number index
     → d ≡ document_at number index → after ≡ before ++ d ∷ [] → after ≡ first_documents number (index + 1)
@@ -70,12 +69,12 @@ module _ (number : ℕ) (streams : Streams) (stands : Stands number streams) whe
     command_drawn x y choice z x_is y_is choice_is z_is =
         ap (λ x. chosen choice index x y z) (drawn_there number (2 * index) _ stands.keys 1000 x x_is)
         ∙ ap (λ y. chosen choice index (x_of number index) y z)
-          (drawn_there number (2 * index + 1) k (state_after number (2 * index) _ stands.keys k k_is) 1000 y y_is)
+        (drawn_there number (2 * index + 1) k (state_after number (2 * index) _ stands.keys k k_is) 1000 y y_is)
         ∙ ap (λ choice. chosen choice index (x_of number index) (y_of number index) z)
-          (drawn_there number (100000 + 2 * index) _ stands.choices 4 choice choice_is)
+        (drawn_there number (100000 + 2 * index) _ stands.choices 4 choice choice_is)
         ∙ ap (chosen (drawn number (100000 + 2 * index) % 4) index (x_of number index) (y_of number index))
-          (drawn_there number (100000 + 2 * index + 1) c (state_after number (100000 + 2 * index) _ stands.choices c c_is) 1000 z z_is
-          ∙ ap (λ place. drawn number place % 1000) (omega arith))
+        (drawn_there number (100000 + 2 * index + 1) c (state_after number (100000 + 2 * index) _ stands.choices c c_is) 1000 z z_is
+        ∙ ap (λ place. drawn number place % 1000) (omega arith))
 
     pub stands_after : (after : Streams) → after.index ≡ index + 1 → after.keys.state ≡ next k → after.choices.state ≡ next c
         → Stands number after
@@ -104,7 +103,7 @@ commands_pushed number client turns index before after was at is =
 
 pub clients_are : (number : ℕ) (asked : Asked) → AreAsked number 5000 asked
     → record { name = codes "c0"; commands = asked.first } ∷ record { name = codes "c1"; commands = asked.second }
-      ∷ record { name = codes "c2"; commands = asked.third } ∷ record { name = codes "c3"; commands = asked.fourth } ∷ []
+    ∷ record { name = codes "c2"; commands = asked.third } ∷ record { name = codes "c3"; commands = asked.fourth } ∷ []
     ≡ clients number
 clients_are number asked are = λ i.
     record { name = codes "c0"; commands = are.first i } ∷ record { name = codes "c1"; commands = are.second i }

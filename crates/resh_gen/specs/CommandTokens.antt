@@ -1,5 +1,5 @@
 -- The text of a command: its JSON, with names in byte order.
-use Rattle.std.specs.Prelude.{ℕ, pos, neg_ℤ, Bool, true, cond, List, [], ◌∷◌, ◌++◌, map, flat_map, filter, codes}
+use Rattle.std.specs.Prelude.{ℕ, pos, neg_ℤ, Bool, true, cond, List, [], ◌∷◌, ◌++◌, flat_map, filter, codes}
 use Rattle.std.specs.List.{list_any}
 use Rattle.std.specs.Fmt.{signed_decimal}
 use Rattle.json.specs.Token.{Token, begin_object, end_object, key, string, number, boolean}

@@ -1,6 +1,5 @@
 -- The setup of a number: 50,000 documents on four shards, resharded onto the next shard, and 20,000 commands.
 use Rattle.std.specs.Prelude.{ℕ, pos, List, [], ◌∷◌, slice_index, codes}
-use Rattle.resh_value.specs.declared.value.ShardId.{ShardId}
 use Rattle.resh_value.specs.declared.value.Value.TheVariants.{Int}
 use Rattle.resh_chunks.specs.Chunks.{Chunks}
 use Rattle.resh_chunks.specs.declared.bound.Bound.{Bound}
@@ -40,13 +39,13 @@ clients number =
 
 abbrev pub generated : ℕ → Setup
 generated number = record {
-    shards = shard_names;
-    old_map = map_over (codes "x") (0 ∷ 1 ∷ 2 ∷ 3 ∷ []);
-    new_map = map_over (codes "y") (1 ∷ 2 ∷ 3 ∷ 0 ∷ []);
-    documents = first_documents number 50000;
-    clients = clients number;
-    lanes = 4;
-    batch = 50;
-    steps = [];
-    plan = [];
-  }
+  shards = shard_names;
+  old_map = map_over (codes "x") (0 ∷ 1 ∷ 2 ∷ 3 ∷ []);
+  new_map = map_over (codes "y") (1 ∷ 2 ∷ 3 ∷ 0 ∷ []);
+  documents = first_documents number 50000;
+  clients = clients number;
+  lanes = 4;
+  batch = 50;
+  steps = [];
+  plan = [];
+}

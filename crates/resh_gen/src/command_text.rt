@@ -86,11 +86,7 @@ fn write_update(alloc: Global, actions: &[Action], writer: &mut Writer) -> Resul
 }
 
 /// Writes each operator that an update has, in byte order of the names.
-fn write_operators(
-    alloc: Global,
-    actions: &[Action],
-    writer: &mut Writer,
-) -> Result<(), NoMemory>
+fn write_operators(alloc: Global, actions: &[Action], writer: &mut Writer) -> Result<(), NoMemory>
     ensures tokens { OnOk result
         (writer.new.tokens ≡ writer.old.tokens ++ flat_map (operator_tokens actions.now) operator_names) }
     ensures before { writer.new.before ≡ writer.old.before }
@@ -185,11 +181,7 @@ fn operator_name(operator: &Operator) -> &'static str
     }
 }
 
-fn write_operand(
-    alloc: Global,
-    operator: &Operator,
-    writer: &mut Writer,
-) -> Result<(), NoMemory>
+fn write_operand(alloc: Global, operator: &Operator, writer: &mut Writer) -> Result<(), NoMemory>
     ensures tokens { OnOk result (writer.new.tokens ≡ writer.old.tokens ++ operand_tokens operator.now) }
     ensures before { writer.new.before ≡ writer.old.before }
 {

@@ -23,7 +23,13 @@ pub fn generated_text(alloc: Global, number: u32) -> Result<Vec<u8>, NoMemory>
     let old_rows = rows_on(alloc, [0, 1, 2, 3])?;
     let new_rows = rows_on(alloc, [1, 2, 3, 0])?;
     let mut writer = Writer::new(Vec::new(alloc));
-    write_setup(alloc, &setup, old_rows.as_slice(), new_rows.as_slice(), &mut writer)?;
+    write_setup(
+        alloc,
+        &setup,
+        old_rows.as_slice(),
+        new_rows.as_slice(),
+        &mut writer,
+    )?;
     let mut text = writer.into_inner();
     text.push(b'\n')?;
     Ok(text)
@@ -92,11 +98,7 @@ fn write_names(name: &str, names: &Names, writer: &mut Writer) -> Result<(), NoM
     Ok(())
 }
 
-fn write_clients(
-    alloc: Global,
-    clients: &Clients,
-    writer: &mut Writer,
-) -> Result<(), NoMemory>
+fn write_clients(alloc: Global, clients: &Clients, writer: &mut Writer) -> Result<(), NoMemory>
     ensures tokens { OnOk result
         (writer.new.tokens ≡ writer.old.tokens ++ array_tokens (map client_tokens clients.now)) }
     ensures before { writer.new.before ≡ writer.old.before }
@@ -150,7 +152,8 @@ fn write_rows(
     writer: &mut Writer,
 ) -> Result<(), NoMemory>
     ensures tokens { OnOk result
-        (writer.new.tokens ≡ writer.old.tokens ++ key name.now ∷ array_tokens (map (chunk_tokens shards.now) rows.now)) }
+        (writer.new.tokens
+        ≡ writer.old.tokens ++ key name.now ∷ array_tokens (map (chunk_tokens shards.now) rows.now)) }
     ensures before { writer.new.before ≡ writer.old.before }
 {
     writer.key(name)?;

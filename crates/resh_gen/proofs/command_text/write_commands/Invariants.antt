@@ -1,4 +1,4 @@
-use Rattle.std.proofs.Common.{◌≡◌, [], ◌∷◌, ◌++◌, take, map, flat_map}
+use Rattle.std.proofs.Common.{◌≡◌, ◌++◌, take, map, flat_map}
 use Rattle.resh_gen.specs.CommandTokens.{command_tokens}
 use Rattle.resh_gen.proofs.command_text.write_commands.Given as goal
 

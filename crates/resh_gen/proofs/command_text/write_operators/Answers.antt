@@ -1,4 +1,4 @@
-use Rattle.std.proofs.Common.{◌≡◌, ◌∙◌, ◌∷◌, [], List, ℕ, codes, sym}
+use Rattle.std.proofs.Common.{◌∙◌, ◌∷◌, [], List, ℕ, codes, sym}
 use Rattle.std.proofs.lemmas.List.{append-nil}
 use Rattle.resh_gen.specs.CommandTokens.{operator_tokens}
 use Rattle.resh_gen.proofs.Written.{piece}

@@ -1,4 +1,4 @@
-use Rattle.std.proofs.Common.{◌≡◌, ◌+◌, ◌*◌, ◌∙◌, arith}
+use Rattle.std.proofs.Common.{◌∙◌, arith}
 use Rattle.resh_gen.proofs.Places.{commands_none, commands_pushed}
 use Rattle.resh_gen.proofs.commands.all_commands.Goals as goal
 

@@ -1,4 +1,4 @@
-use Rattle.std.proofs.Common.{◌≡◌, ◌∙◌}
+use Rattle.std.proofs.Common.{◌∙◌}
 use Rattle.resh_gen.proofs.Places.{documents_none, documents_pushed, document_drawn, state_first, state_two_after}
 use Rattle.resh_gen.proofs.documents.first_documents.Goals as goal
 

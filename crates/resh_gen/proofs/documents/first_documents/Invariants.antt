@@ -1,4 +1,4 @@
-use Rattle.std.proofs.Common.{◌≡◌, ◌+◌, ◌*◌}
+use Rattle.std.proofs.Common.{◌≡◌, ◌*◌}
 use Rattle.resh_gen.specs.Draws.{state_at}
 use Rattle.resh_gen.specs.Documents.{first_documents}
 use Rattle.resh_gen.proofs.documents.first_documents.Given as goal

@@ -1,4 +1,3 @@
-use Rattle.std.proofs.Common.{◌≡◌}
 use Rattle.resh_gen.proofs.Written.{text_written}
 use Rattle.resh_gen.proofs.setup_text.generated_text.Goals as goal
 

@@ -1,4 +1,3 @@
-use Rattle.std.proofs.Common.{◌≡◌}
 use Rattle.resh_gen.proofs.Written.{two_members}
 use Rattle.resh_gen.proofs.setup_text.write_client.Goals as goal
 

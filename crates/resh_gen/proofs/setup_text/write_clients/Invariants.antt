@@ -1,4 +1,4 @@
-use Rattle.std.proofs.Common.{◌≡◌, [], ◌∷◌, ◌++◌, take, map, flat_map}
+use Rattle.std.proofs.Common.{◌≡◌, ◌++◌, take, map, flat_map}
 use Rattle.resh_gen.specs.SetupText.{client_tokens}
 use Rattle.resh_gen.proofs.setup_text.write_clients.Given as goal
 

@@ -1,4 +1,4 @@
-use Rattle.std.proofs.Common.{◌≡◌, ◌∙◌, ◌∷◌, [], List, ℕ, codes, map}
+use Rattle.std.proofs.Common.{◌∙◌, ◌∷◌, [], List, ℕ, codes, map}
 use Rattle.json.specs.Token.{Token}
 use Rattle.resh_value.specs.Text.{array_tokens, document_tokens}
 use Rattle.resh_gen.specs.SetupText.{chunks_tokens, client_tokens, names_tokens, number_tokens}
