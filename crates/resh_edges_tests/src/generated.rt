@@ -1,0 +1,54 @@
+//! The setup of a number: its text, read back, is the setup.
+
+use resh_config::read_setup;
+use resh_gen::{generate, generated_text};
+use resh_setup::Setup;
+use std::alloc::Global;
+use std::test::Fail;
+
+/// The first document, and how the text begins and ends.
+const FIRST: &str = r#"{"_id":0,"n":0,"x":807,"y":424}"#;
+
+const HEAD: &str = r#"{"batch":50,"clients":[{"commands":[{"#;
+
+const TAIL: &str = "\"version\":1}\n";
+
+/// The parts of a setup, the documents with their owners under both maps.
+fn parts(alloc: Global, setup: &Setup) -> Result<String, Fail> {
+    let mut text = format!(in alloc; "{:?} {} {}", setup.shards, setup.lanes, setup.batch)?;
+    write!(text, " {} {}", setup.steps.len(), setup.plan.len())?;
+    for document in setup.documents.as_slice() {
+        let old = setup.old_map.owner_of(document).0;
+        let new = setup.new_map.owner_of(document).0;
+        write!(text, " {old}>{new} {}", document.text(alloc)?.as_str())?;
+    }
+    for client in setup.clients.as_slice() {
+        write!(text, " {} {:?}", client.name.as_str(), client.commands)?;
+    }
+    Ok(text)
+}
+
+/// What reading the text of a number gives.
+fn read_parts(alloc: Global, text: &[u8]) -> Result<String, Fail> {
+    match read_setup(alloc, text) {
+        Ok(setup) => parts(alloc, &setup),
+        Err(_) => Ok(String::from_str(alloc, "refused")?),
+    }
+}
+
+#[test]
+fn a_generated_text_is_read_as_its_setup(rt: HostRuntime) -> Result<(), Fail> {
+    let alloc = rt.alloc();
+    for (number, bytes) in [(0u32, 2864542usize), (7, 2865475)] {
+        let text = generated_text(alloc, number)?;
+        let made = parts(alloc, &generate(alloc, number)?)?;
+        assert!(rt; read_parts(alloc, text.as_slice())?.as_str() == made.as_str());
+        assert_eq!(rt; text.len(), bytes);
+        assert!(rt;
+            text.as_slice().starts_with(HEAD.as_bytes())
+                && text.as_slice().ends_with(TAIL.as_bytes())
+        );
+        assert_eq!(rt; made.as_str().contains(FIRST), number == 0);
+    }
+    Ok(())
+}
