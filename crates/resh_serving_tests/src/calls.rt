@@ -3,6 +3,7 @@
 use crate::cluster::{is_next, may_ask, opened};
 use crate::sequences::{next_command, setup_of};
 use resh_cloner::next_batch;
+use resh_setup::Setup;
 use resh_shard::{Act, Command, Shard, Which};
 use resh_stamp::Stamp;
 use resh_value::{ShardId, Words};
@@ -46,27 +47,53 @@ fn is_blocked(act: Act) -> bool {
     }
 }
 
+fn expect(is: bool, what: &str) -> Result<(), Fail> {
+    if is {
+        return Ok(());
+    }
+    Err(Fail::from(what))
+}
+
+/// A document that is deleted after the fetch time is cloned all the same.
+fn is_cloned(alloc: Global, shard: &mut Shard, delete: &Command) -> Result<(), Fail> {
+    shard.prepare();
+    expect(!is_blocked(asked(shard, delete, 1)?), "a delete")?;
+    let (text, end) = cloned(alloc, shard, 2)?;
+    expect(
+        end && text.is(r#"{"_id":11,"x":2,"y":11}"#),
+        "the whole clone",
+    )?;
+    expect(!cloned(alloc, shard, 1)?.1, "a clone that may go on")
+}
+
+/// Blocking logs a final entry for each of three shards.
+fn is_held_up(shard: &mut Shard, insert: &Command) -> Result<(), Fail> {
+    block(shard, 2)?;
+    expect(shard.blocked() && shard.log().len() == 4, "final entries")?;
+    expect(is_blocked(asked(shard, insert, 3)?), "a blocked shard")
+}
+
+fn goes_on(shard: &mut Shard, insert: &Command) -> Result<(), Fail> {
+    shard.release();
+    expect(shard.which() == Which::Old, "the old map")?;
+    expect(!is_blocked(asked(shard, insert, 3)?), "an insert")?;
+    shard.prune(2);
+    expect(shard.versions().floor() == 2, "a floor")
+}
+
+fn walks_on(alloc: Global, shard: &mut Shard, setup: &Setup) -> Result<(), Fail> {
+    is_cloned(alloc, shard, next_command(setup, 0)?)?;
+    is_held_up(shard, next_command(setup, 1)?)?;
+    goes_on(shard, next_command(setup, 1)?)
+}
+
+fn walks_over(alloc: Global, setup: &Setup) -> Result<(), Fail> {
+    let mut shard = opened(alloc, setup)?.into_first()?;
+    walks_on(alloc, &mut shard, setup)
+}
+
 #[test]
 fn a_shard_is_cloned_blocked_and_released(rt: HostRuntime) -> Result<(), Fail> {
-    let alloc = rt.alloc();
-    let setup = setup_of(alloc, "many", COMMANDS)?;
-    let mut shard = opened(alloc, &setup)?.into_first()?;
-    shard.prepare();
-    let delete = next_command(&setup, 0)?;
-    let insert = next_command(&setup, 1)?;
-    assert!(rt; !is_blocked(asked(&mut shard, delete, 1)?));
-    let (text, end) = cloned(alloc, &shard, 2)?;
-    assert_eq!(rt; text.as_str(), r#"{"_id":11,"x":2,"y":11}"#);
-    assert!(rt; end);
-    assert!(rt; !cloned(alloc, &shard, 1)?.1);
-    block(&mut shard, 2)?;
-    assert!(rt; shard.blocked());
-    assert_eq!(rt; shard.log().len(), 4);
-    assert!(rt; is_blocked(asked(&mut shard, insert, 3)?));
-    shard.release();
-    assert!(rt; shard.which() == Which::Old);
-    assert!(rt; !is_blocked(asked(&mut shard, insert, 3)?));
-    shard.prune(2);
-    assert_eq!(rt; shard.versions().floor(), 2);
-    Ok(())
+    let setup = setup_of(rt.alloc(), "many", COMMANDS)?;
+    walks_over(rt.alloc(), &setup)
 }
