@@ -1,6 +1,8 @@
 //! Shards that one client asks through the router, command by command, with no copies, batches or messages.
 
 ghost use Rattle.std.specs.Prelude.{◌≡◌, true, IsTrue};
+ghost use Rattle.std.specs.List.{list_all};
+ghost use Rattle.resh_value.specs.Whole.{is_whole};
 ghost use Rattle.resh_router.specs.Merging.{are_counted, are_found, is_counted, is_found};
 ghost use Rattle.resh_shard.specs.Decisions.{IsAsked};
 ghost use Rattle.resh_shard.specs.Shards.{is_next};
@@ -239,7 +241,9 @@ fn take_in(shard: &mut Shard, document: Document, stamp: Stamp) -> Result<TakeIn
     Err(Fail::from("nothing that may be taken in"))
 }
 
-fn are_whole(documents: &[Document]) -> bool {
+fn are_whole(documents: &[Document]) -> bool
+    ensures { result ≡ list_all is_whole documents.now }
+{
     documents.iter().all(|document| document.is_whole())
 }
 
