@@ -1,6 +1,6 @@
 //! Sequences of commands as texts: the order in which the commands are asked and the switch comes, the documents, and
-//! the commands of the one client. Documents go by `x` under the old map and by `y` under the new one; shard `a` has the
-//! numbers below 10, `b` those below 20 and `c` the rest. `none`, `one`, `two` and `many` are documents below.
+//! the commands of the one client. Documents go by `x` under the old map and by `y` under the new one; shard `a` has
+//! the numbers below 10, `b` those below 20 and `c` the rest. `none`, `one`, `two` and `many` are documents below.
 
 pub(crate) const HEAD: &str =
     r#"{"version":1,"shards":["a","b","c"],"oldKey":["x"],"newKey":["y"],"lanes":1,
@@ -198,4 +198,37 @@ ask ask switch
 ask ask ask ask switch ask ask
 one
 {"delete":{"_id":1,"x":1,"y":1}},{"insert":{"_id":1,"x":1,"y":1,"n":1}},{"delete":{"_id":1,"x":1,"y":1}},
-{"insert":{"_id":1,"x":1,"y":1,"n":2}},{"delete":{"_id":1,"x":1,"y":1}},{"insert":{"_id":1,"x":1,"y":1,"n":3}}"#;
+{"insert":{"_id":1,"x":1,"y":1,"n":2}},{"delete":{"_id":1,"x":1,"y":1}},{"insert":{"_id":1,"x":1,"y":1,"n":3}}
+
+ask switch
+{"_id":1,"x":1,"y":1},{"_id":1,"x":20,"y":1}
+{"delete":{"_id":1,"x":1}}
+
+ask ask switch
+one
+{"delete":{"_id":1,"x":1}},{"insert":{"_id":1,"x":20,"y":1,"n":5}}
+
+ask ask switch
+{"_id":1,"x":1,"y":1},{"_id":1,"x":11,"y":1},{"_id":1,"x":21,"y":1}
+{"delete":{"_id":1,"x":1}},{"delete":{"_id":1,"x":11}}
+
+ask switch
+one
+{"update":{"_id":1,"x":1},"with":{"$set":{"x":15}}}
+
+ask switch
+one
+{"update":{"_id":1,"x":1},"with":{"$set":{"y":20}}}
+
+switch ask ask
+{"_id":1,"x":1,"y":20}
+{"update":{"_id":1,"x":1},"with":{"$set":{"n":1}}},{"update":{"_id":1,"y":20},"with":{"$set":{"n":2}}}
+
+ask ask ask ask switch
+{"_id":1,"x":1,"y":1,"n":0},{"_id":2,"x":20,"y":1}
+{"update":{"_id":1,"x":1},"with":{"$set":{"n":1}}},{"update":{"_id":1,"x":1},"with":{"$set":{"n":2}}},
+{"insert":{"_id":2,"x":2,"y":1}},{"delete":{"_id":2,"x":20}}
+
+ask ask switch
+{"_id":1,"x":1,"y":1,"n":9223372036854775807}
+{"update":{"_id":1,"x":1},"with":{"$inc":{"n":1}}},{"update":{"_id":1,"x":1},"with":{"$inc":{"m":2}}}"#;
