@@ -17,6 +17,7 @@ use std::test::Fail;
 struct Served {
     order: Turns,
     replies: Replies,
+    asked: u64,
     cluster: Cluster,
 }
 
@@ -27,7 +28,9 @@ impl Served {
             self.cluster.switch()?;
             return add(&mut self.order, Turn::Switch);
         }
-        self.ask(next_command(setup, self.replies.len())?)
+        let number = self.asked;
+        self.asked = number.wrapping_add(1);
+        self.ask(next_command(setup, number)?)
     }
 
     fn ask(&mut self, command: &Command) -> Result<(), Fail> {
@@ -73,6 +76,7 @@ fn serve(alloc: Global, setup: &Setup, words: &str) -> Result<Served, Fail> {
     let mut served = Served {
         order: Turns::new(alloc),
         replies: Replies::new(alloc),
+        asked: 0,
         cluster: opened(alloc, setup)?,
     };
     for word in words.split_whitespace() {
