@@ -1,6 +1,7 @@
 //! Sequences of commands as texts: the order in which the commands are asked and the switch comes, the documents, and
 //! the commands of the one client. Documents go by `x` under the old map and by `y` under the new one; shard `a` has
 //! the numbers below 10, `b` those below 20 and `c` the rest. `none`, `one`, `two` and `many` are documents below.
+//! `shop` has shards, keys and documents of its own.
 
 pub(crate) const HEAD: &str =
     r#"{"version":1,"shards":["a","b","c"],"oldKey":["x"],"newKey":["y"],"lanes":1,
@@ -17,6 +18,21 @@ pub(crate) const MANY: &str =
     r#"{"_id":12,"x":1,"y":1},{"_id":11,"x":2,"y":11},{"_id":10,"x":3,"y":21},
 {"_id":9,"x":11,"y":1},{"_id":8,"x":12,"y":11},{"_id":7,"x":13,"y":21},{"_id":6,"x":21,"y":1},{"_id":5,"x":22,"y":11},
 {"_id":4,"x":23,"y":21},{"_id":3,"x":4,"y":2},{"_id":2,"x":14,"y":12},{"_id":1,"x":24,"y":22}"#;
+
+/// A shop's orders, resharded by region and customer.
+pub(crate) const SHOP_HEAD: &str =
+    r#"{"version":1,"shards":["east","west"],"oldKey":["customer"],"newKey":["region","customer"],
+"oldChunks":[{"min":"MinKey","max":["m"],"shard":"east"},{"min":["m"],"max":"MaxKey","shard":"west"}],
+"newChunks":[{"min":"MinKey","max":["eu"],"shard":"east"},{"min":["eu"],"max":["us"],"shard":"west"},{"min":["us"],
+"max":"MaxKey","shard":"east"}]"#;
+
+pub(crate) const SHOP: &str =
+    r#"{"_id":1,"customer":"ann","region":"eu","lines":[{"sku":"tea","qty":{"$numberInt":"2"}}],"total":900},
+{"_id":2,"customer":"bob","region":"us","lines":[{"sku":"cup","qty":1}],"total":400},
+{"_id":3,"customer":"mia","region":"eu","lines":[{"sku":"jug","qty":1}],"total":700},
+{"_id":4,"customer":"zoe","region":"apac","lines":[{"sku":"tea","qty":3}],"total":{"$numberLong":"1200"}},
+{"_id":5,"customer":"leo","placed":{"$date":{"$numberLong":"1700000000000"}},"lines":[],"total":100},
+{"_id":6,"customer":"pat","region":"us","lines":[],"total":300}"#;
 
 /// Inserts, deletes, updates in place, refusals, moves and their undoing, commands after the switch, finds and counts.
 pub(crate) const SEQUENCES: &str = r#"ask switch
@@ -231,4 +247,16 @@ ask ask ask ask switch
 
 ask ask switch
 {"_id":1,"x":1,"y":1,"n":9223372036854775807}
-{"update":{"_id":1,"x":1},"with":{"$inc":{"n":1}}},{"update":{"_id":1,"x":1},"with":{"$inc":{"m":2}}}"#;
+{"update":{"_id":1,"x":1},"with":{"$inc":{"n":1}}},{"update":{"_id":1,"x":1},"with":{"$inc":{"m":2}}}
+
+ask ask ask ask ask ask ask ask switch ask ask ask ask
+shop
+{"insert":{"_id":7,"customer":"ann","region":"us","lines":[],"total":250}},{"delete":{"_id":6,"customer":"pat"}},
+{"update":{"_id":1,"customer":"ann"},"with":{"$set":{"status":"paid"},"$inc":{"total":50}}},
+{"update":{"_id":3,"customer":"mia"},"with":{"$set":{"customer":"amy"}}},
+{"update":{"_id":4,"customer":"zoe"},"with":{"$push":{"lines":{"sku":"pot","qty":1}}}},
+{"insert":{"_id":2,"customer":"bob"}},{"find":{"region":"eu"}},
+{"update":{"_id":5,"customer":"leo"},"with":{"$set":{"region":"us"}}},
+{"update":{"_id":5,"customer":"leo"},"with":{"$inc":{"total":1}}},
+{"update":{"_id":5,"region":"us","customer":"leo"},"with":{"$inc":{"total":-20}}},{"count":{}},
+{"delete":{"_id":2,"region":"us","customer":"bob"}}"#;

@@ -1,6 +1,6 @@
 //! Commands given to shards by the router: the page is the one that the plain program has for the same order.
 
-use crate::cases::{HEAD, MANY, ONE, SEQUENCES, TWO};
+use crate::cases::{HEAD, MANY, ONE, SEQUENCES, SHOP, SHOP_HEAD, TWO};
 use crate::cluster::{Cluster, opened};
 use resh_command::{Command, Replies};
 use resh_config::read_setup;
@@ -56,14 +56,21 @@ fn documents_of(word: &str) -> &str {
         "one" => ONE,
         "two" => TWO,
         "many" => MANY,
+        "shop" => SHOP,
         _ => word,
     }
 }
 
-pub(crate) fn setup_of(alloc: Global, documents: &str, commands: &str) -> Result<Setup, Fail> {
-    let documents = documents_of(documents);
+/// Shards, keys and chunks.
+fn head_of(word: &str) -> &str {
+    if word == "shop" { SHOP_HEAD } else { HEAD }
+}
+
+pub(crate) fn setup_of(alloc: Global, word: &str, commands: &str) -> Result<Setup, Fail> {
+    let head = head_of(word);
+    let documents = documents_of(word);
     let file = format!(in alloc;
-        "{HEAD},\"documents\":[{documents}],\"clients\":[{{\"name\":\"c1\",\"commands\":[{commands}]}}]}}"
+        "{head},\"documents\":[{documents}],\"clients\":[{{\"name\":\"c1\",\"commands\":[{commands}]}}]}}"
     )?;
     read_setup(alloc, file.as_bytes())
         .ok()
