@@ -59,6 +59,13 @@ impl ChunkMap {
         &self.pattern
     }
 
+    /// The chunks in their order.
+    pub fn rows(&self) -> &[ChunkRow]
+        ensures { result.now ≡ self.now.rows }
+    {
+        self.rows.as_slice()
+    }
+
     /// The number of shards that was given to `new`.
     pub fn shards(&self) -> u32
         ensures { result ≡ self.now.shards }

@@ -31,6 +31,13 @@ impl Link {
         self.state.lanes
     }
 
+    /// How many items are read at a time.
+    pub fn batch(&self) -> u32
+        ensures { result ≡ self.now.batch }
+    {
+        self.state.batch
+    }
+
     pub fn is_started(&self) -> bool
         ensures { result ≡ self.now.started }
     {
