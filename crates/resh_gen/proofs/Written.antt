@@ -44,11 +44,11 @@ pub with_rows : (s t : List Token) (name : List ℕ) (shards : List (List ℕ)) 
 with_rows s t name shards rows others e same = e ∙ ap (λ rows. s ++ key name ∷ array_tokens (map (chunk_tokens shards) rows)) same
 
 -- the text of what was written into nothing
-pub text_written : (out text before b i : List ℕ) (tokens t : List Token) (setup made : Setup) → out ≡ text ++ 10 ∷ []
-    → text ≡ before ++ print tokens → before ≡ b → b ≡ i → i ≡ [] → tokens ≡ t ++ setup_tokens setup → t ≡ [] → setup ≡ made
-    → out ≡ setup_text made
-text_written out text before b i tokens t setup made out_is text_is before_is b_is i_is tokens_is t_is made_is =
+pub text_written : (out text before b i : List ℕ) (tokens t : List Token) (setup : Setup) → out ≡ text ++ 10 ∷ []
+    → text ≡ before ++ print tokens → before ≡ b → b ≡ i → i ≡ [] → tokens ≡ t ++ setup_tokens setup → t ≡ []
+    → out ≡ setup_text setup
+text_written out text before b i tokens t setup out_is text_is before_is b_is i_is tokens_is t_is =
     out_is
     ∙ ap (λ text. text ++ 10 ∷ []) (text_is
     ∙ ap (λ before. before ++ print tokens) (before_is ∙ b_is ∙ i_is)
-    ∙ ap print (tokens_is ∙ ap (λ t. t ++ setup_tokens setup) t_is ∙ ap setup_tokens made_is))
+    ∙ ap print (tokens_is ∙ ap (λ t. t ++ setup_tokens setup) t_is))

@@ -5,8 +5,8 @@ mod command_text;
 mod commands;
 mod documents;
 mod draws;
+mod file_text;
 mod setup;
-mod setup_text;
 
+pub use file_text::{generated_text, setup_text};
 pub use setup::generate;
-pub use setup_text::generated_text;

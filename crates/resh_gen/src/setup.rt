@@ -69,7 +69,7 @@ fn pattern_of(alloc: Global, name: &str) -> Result<KeyPattern, NoMemory>
 }
 
 /// Four chunks that lie on these shards.
-pub(crate) fn rows_on(alloc: Global, shards: [u32; 4]) -> Result<Vec<ChunkRow>, NoMemory>
+fn rows_on(alloc: Global, shards: [u32; 4]) -> Result<Vec<ChunkRow>, NoMemory>
     ensures { IfOk result (λ rows. rows.items ≡ rows_on shards) }
 {
     let [first, second, third, fourth] = shards;

@@ -5,3 +5,5 @@ pub mod StepLines
 pub mod Replies
 pub mod Page
 pub mod Counts
+pub mod Checked
+pub mod Summaries

@@ -128,7 +128,7 @@ fn append_documents(out: Vec<u8>, documents: &[Document]) -> Result<Vec<u8>, NoM
     Ok(out)
 }
 
-fn append_end_line(
+pub(crate) fn append_end_line(
     out: Vec<u8>,
     names: &[Words],
     clients: &[Client],

@@ -1,5 +1,5 @@
 use Rattle.resh_gen.proofs.Written.{two_members}
-use Rattle.resh_gen.proofs.setup_text.write_client.Goals as goal
+use Rattle.resh_gen.proofs.file_text.write_client.Goals as goal
 
 pub returns-clause-tokens : goal.returns-clause-tokens
 returns-clause-tokens c =

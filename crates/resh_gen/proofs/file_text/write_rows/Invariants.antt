@@ -1,6 +1,6 @@
 use Rattle.std.proofs.Common.{◌≡◌, ◌++◌, take, map, flat_map}
 use Rattle.resh_gen.specs.SetupText.{chunk_tokens}
-use Rattle.resh_gen.proofs.setup_text.write_rows.Given as goal
+use Rattle.resh_gen.proofs.file_text.write_rows.Given as goal
 
 abbrev pub invariant-loop-row : goal.invariant-loop-row
 invariant-loop-row l = record {

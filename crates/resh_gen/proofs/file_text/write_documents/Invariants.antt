@@ -1,6 +1,6 @@
 use Rattle.std.proofs.Common.{◌≡◌, ◌++◌, take, map, flat_map}
 use Rattle.resh_value.specs.Text.{document_tokens}
-use Rattle.resh_gen.proofs.setup_text.write_documents.Given as goal
+use Rattle.resh_gen.proofs.file_text.write_documents.Given as goal
 
 abbrev pub invariant-loop-document : goal.invariant-loop-document
 invariant-loop-document l = record {

@@ -1,4 +1,4 @@
-//! The text of a setup.
+//! The text of a setup: its cluster file.
 
 ghost use Rattle.std.specs.Prelude.{◌≡◌, [], ◌∷◌, ◌++◌, map, codes, decimal, slice_index_or, IfOk, OnOk};
 ghost use Rattle.json.specs.Token.{key, number};
@@ -7,44 +7,33 @@ ghost use Rattle.resh_gen.specs.Generated.{generated};
 ghost use Rattle.resh_gen.specs.SetupText.{bound_tokens, chunk_tokens, client_tokens, name_tokens, names_tokens, setup_text, setup_tokens};
 
 use crate::command_text::write_commands;
-use crate::setup::{generate, rows_on};
+use crate::setup::generate;
 use json::Writer;
 use resh_chunks::{Bound, ChunkMap, ChunkRow, Key};
 use resh_setup::{Client, Clients, Setup};
 use resh_value::{Documents, Names, NoMemory, Words};
 use std::alloc::Global;
 
-/// The cluster file of a number: the setup that `generate` gives, as one line of compact JSON with names in byte order.
-/// It has no steps and no plan.
+/// The cluster file of a number: the text of the setup that `generate` gives.
 pub fn generated_text(alloc: Global, number: u32) -> Result<Vec<u8>, NoMemory>
     ensures { IfOk result (λ bytes. bytes.items ≡ setup_text (generated number)) }
 {
     let setup = generate(alloc, number)?;
-    let old_rows = rows_on(alloc, [0, 1, 2, 3])?;
-    let new_rows = rows_on(alloc, [1, 2, 3, 0])?;
+    setup_text(alloc, &setup)
+}
+
+/// The cluster file of a setup without steps and plan, as one line of compact JSON with names in byte order.
+pub fn setup_text(alloc: Global, setup: &Setup) -> Result<Vec<u8>, NoMemory>
+    ensures { IfOk result (λ bytes. bytes.items ≡ setup_text setup.now) }
+{
     let mut writer = Writer::new(Vec::new(alloc));
-    write_setup(
-        alloc,
-        &setup,
-        old_rows.as_slice(),
-        new_rows.as_slice(),
-        &mut writer,
-    )?;
+    write_setup(alloc, setup, &mut writer)?;
     let mut text = writer.into_inner();
     text.push(b'\n')?;
     Ok(text)
 }
 
-/// Writes a setup with the rows of its maps.
-fn write_setup(
-    alloc: Global,
-    setup: &Setup,
-    old_rows: &[ChunkRow],
-    new_rows: &[ChunkRow],
-    writer: &mut Writer,
-) -> Result<(), NoMemory>
-    requires old { old_rows.now ≡ setup.now.old_map.rows }
-    requires new { new_rows.now ≡ setup.now.new_map.rows }
+fn write_setup(alloc: Global, setup: &Setup, writer: &mut Writer) -> Result<(), NoMemory>
     ensures tokens { OnOk result (writer.new.tokens ≡ writer.old.tokens ++ setup_tokens setup.now) }
     ensures before { writer.new.before ≡ writer.old.before }
 {
@@ -55,9 +44,9 @@ fn write_setup(
     writer.key("documents")?;
     write_documents(&setup.documents, writer)?;
     write_number("lanes", setup.lanes, writer)?;
-    write_rows("newChunks", &setup.shards, new_rows, writer)?;
+    write_rows("newChunks", &setup.shards, setup.new_map.rows(), writer)?;
     write_key("newKey", &setup.new_map, writer)?;
-    write_rows("oldChunks", &setup.shards, old_rows, writer)?;
+    write_rows("oldChunks", &setup.shards, setup.old_map.rows(), writer)?;
     write_key("oldKey", &setup.old_map, writer)?;
     write_names("shards", &setup.shards, writer)?;
     write_number("version", 1, writer)?;

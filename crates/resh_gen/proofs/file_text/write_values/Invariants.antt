@@ -1,6 +1,6 @@
 use Rattle.std.proofs.Common.{◌≡◌, ◌++◌, take, map, flat_map}
 use Rattle.resh_value.specs.Text.{tokens_of}
-use Rattle.resh_gen.proofs.setup_text.write_values.Given as goal
+use Rattle.resh_gen.proofs.file_text.write_values.Given as goal
 
 abbrev pub invariant-loop-value : goal.invariant-loop-value
 invariant-loop-value l = record {

@@ -1,6 +1,6 @@
 use Rattle.std.proofs.Common.{◌≡◌, ◌++◌, take, map, flat_map}
 use Rattle.resh_gen.specs.SetupText.{client_tokens}
-use Rattle.resh_gen.proofs.setup_text.write_clients.Given as goal
+use Rattle.resh_gen.proofs.file_text.write_clients.Given as goal
 
 abbrev pub invariant-loop-client : goal.invariant-loop-client
 invariant-loop-client l = record {

@@ -1,6 +1,6 @@
 use Rattle.std.proofs.Common.{◌≡◌, ◌++◌, take, map, flat_map}
 use Rattle.resh_gen.specs.SetupText.{name_tokens}
-use Rattle.resh_gen.proofs.setup_text.write_names.Given as goal
+use Rattle.resh_gen.proofs.file_text.write_names.Given as goal
 
 abbrev pub invariant-loop-name : goal.invariant-loop-name
 invariant-loop-name l = record {

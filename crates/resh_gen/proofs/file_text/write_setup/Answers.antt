@@ -3,7 +3,7 @@ use Rattle.json.specs.Token.{Token}
 use Rattle.resh_value.specs.Text.{array_tokens, document_tokens}
 use Rattle.resh_gen.specs.SetupText.{chunks_tokens, client_tokens, names_tokens, number_tokens}
 use Rattle.resh_gen.proofs.Written.{begun, put, under, with_rows}
-use Rattle.resh_gen.proofs.setup_text.write_setup.Goals as goal
+use Rattle.resh_gen.proofs.file_text.write_setup.Goals as goal
 
 abbrev Members : Type 0
 Members = List (List ℕ × List Token)
@@ -26,9 +26,9 @@ returns-clause-tokens c =
     ∙ put _ _ _ _ m10 c.in_ok-write_number-3.ensures.tokens
     ∙ put _ _ _ _ m9 c.in_ok-write_names.ensures.tokens
     ∙ put _ _ _ _ m8 c.in_ok-write_key-2.ensures.tokens
-    ∙ put _ _ _ _ m7 (with_rows _ _ _ _ _ _ c.in_ok-write_rows-2.ensures.tokens c.requires.old)
+    ∙ put _ _ _ _ m7 (with_rows _ _ _ _ _ _ c.in_ok-write_rows-2.ensures.tokens c.rows-2.ensures)
     ∙ put _ _ _ _ m6 c.in_ok-write_key.ensures.tokens
-    ∙ put _ _ _ _ m5 (with_rows _ _ _ _ _ _ c.in_ok-write_rows.ensures.tokens c.requires.new)
+    ∙ put _ _ _ _ m5 (with_rows _ _ _ _ _ _ c.in_ok-write_rows.ensures.tokens c.rows.ensures)
     ∙ put _ _ _ _ m4 c.in_ok-write_number-2.ensures.tokens
     ∙ put _ _ _ _ m3 (under _ _ _ _ _ c.in_ok-key-2.ensures.ok c.in_ok-write_documents.ensures.tokens)
     ∙ put _ _ _ _ m2 (under _ _ _ _ _ c.in_ok-key.ensures.ok c.in_ok-write_clients.ensures.tokens)
