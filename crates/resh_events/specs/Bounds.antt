@@ -5,7 +5,8 @@ use Rattle.resh_fetcher.specs.Links.{LinkOf, out_end}
 use Rattle.resh_split.specs.Parts.{is_below_end}
 use Rattle.resh_setup.specs.declared.event.Event.{Event}
 use Rattle.resh_setup.specs.declared.event.Event.TheVariants.{Clone, Fetch, Cut}
-use Rattle.resh_events.specs.Cells.{Cluster, link_in}
+use Rattle.resh_cells.specs.Cells.{link_in}
+use Rattle.resh_cells.specs.declared.cluster.Cluster.{Cluster}
 use Rattle.resh_events.specs.rows.Clone as clone
 use Rattle.resh_events.specs.rows.Cut as cut
 use Rattle.resh_events.specs.rows.Fetch as fetch

@@ -11,7 +11,8 @@ use Rattle.resh_setup.specs.declared.event.Event.{Event}
 use Rattle.resh_setup.specs.declared.event.Event.TheVariants.{Clone, Fetch, Cut, Apply, Again, Record, Crash, Fail}
 use Rattle.resh_setup.specs.declared.plan.Who.{Who}
 use Rattle.resh_setup.specs.declared.plan.Who.TheVariants.{Coordinator, Link, Lane}
-use Rattle.resh_events.specs.Cells.{Cluster, link_in}
+use Rattle.resh_cells.specs.Cells.{link_in}
+use Rattle.resh_cells.specs.declared.cluster.Cluster.{Cluster}
 use Rattle.resh_events.specs.Luck.{Asks, commits, delivers}
 use Rattle.resh_setup.specs.declared.trace.Met.{Met}
 use Rattle.resh_setup.specs.declared.trace.Met.TheVariants.{Row, CrashedBefore, CrashedAfter, Failed, Lost, NoMemory, NoMemoryInMove}

@@ -1,5 +1,3 @@
-pub mod Cells
-pub mod Clocks
 pub mod Opening
 pub mod Targets
 pub mod rows

@@ -8,8 +8,9 @@ use Rattle.resh_setup.specs.declared.event.Event.TheVariants as event
 use Rattle.resh_setup.specs.declared.plan.Who.{Who}
 use Rattle.resh_setup.specs.declared.plan.Who.TheVariants.{Coordinator, Link, Lane}
 use Rattle.resh_setup.specs.declared.setup.Setup.{Setup}
-use Rattle.resh_events.specs.Cells.{Cluster, on_control}
-use Rattle.resh_events.specs.Clocks.{Cell}
+use Rattle.resh_cells.specs.Cells.{on_control}
+use Rattle.resh_cells.specs.declared.cluster.Cluster.{Cluster}
+use Rattle.resh_cells.specs.declared.cell.Cell.{Cell}
 use Rattle.resh_events.specs.Table as table
 use Rattle.resh_setup.specs.declared.trace.Met.{Met}
 use Rattle.resh_setup.specs.declared.trace.Met.TheVariants.{Row, CrashedBefore, CrashedAfter, Failed, Lost, NoMemory, NoMemoryInMove}

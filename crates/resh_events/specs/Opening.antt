@@ -13,7 +13,11 @@ use Rattle.resh_bag.specs.Answer.{text_limit}
 use Rattle.resh_shard.specs.Shards.{opened, with_loaded}
 use Rattle.resh_shard.specs.Writes.{shard_id}
 use Rattle.resh_setup.specs.declared.setup.Setup.{Setup}
-use Rattle.resh_events.specs.Cells.{Cluster, Clocks, ShardCell, LinkCell, no_client}
+use Rattle.resh_cells.specs.Cells.{no_client}
+use Rattle.resh_cells.specs.declared.cluster.Cluster.{Cluster}
+use Rattle.resh_cells.specs.declared.cluster.Clocks.{Clocks}
+use Rattle.resh_cells.specs.declared.cluster.ShardCell.{ShardCell}
+use Rattle.resh_cells.specs.declared.cluster.LinkCell.{LinkCell}
 
 module _ (setup : Setup) where
   abbrev pub shards : ℕ
@@ -38,7 +42,7 @@ module _ (setup : Setup) where
   opening_lane = lane.fresh (empty_pool setup.old_map shards) shards
 
   abbrev pub opening_link : ℕ → ℕ → LinkCell
-  opening_link r d = record { link = fresh (shard_id r) (shard_id d) setup.lanes setup.batch; sent = [] }
+  opening_link r d = record { link = fresh (shard_id r) (shard_id d) setup.lanes setup.batch; sent = replicate setup.lanes [] }
 
   -- every clock stands at 0
   abbrev pub opening_clocks : Clocks

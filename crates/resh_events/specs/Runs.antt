@@ -6,8 +6,9 @@ use Rattle.resh_stamp.specs.Times.{next_time}
 use Rattle.resh_stamp.specs.declared.stamp.Stamp.{Stamp}
 use Rattle.resh_setup.specs.declared.event.Event.{Event}
 use Rattle.resh_setup.specs.declared.setup.Setup.{Setup}
-use Rattle.resh_events.specs.Cells.{Cluster}
-use Rattle.resh_events.specs.Clocks.{Cell, clocks_of, first_number, with_clocks}
+use Rattle.resh_cells.specs.declared.cluster.Cluster.{Cluster}
+use Rattle.resh_cells.specs.Clocks.{clocks_of, first_number, with_clocks}
+use Rattle.resh_cells.specs.declared.cell.Cell.{Cell}
 use Rattle.resh_events.specs.Follows.{follows}
 use Rattle.resh_events.specs.Luck.{Asks, asks, change, holds, seen}
 use Rattle.resh_events.specs.Lucks.{Lucks, called, planned}

@@ -1,14 +1,14 @@
 -- A step of a cluster on one thread: nothing where its event may not be made, else its event and at once all that
 -- follows it.
-use Rattle.std.specs.Prelude.{◌≡◌, ℕ, zero, suc, ◌==◌, Bool, true, false, ◌&&◌, List, [], ◌∷◌, filter, Option, Some, None}
-use Rattle.std.specs.List.{last_or}
-use Rattle.resh_feed.specs.Lanes.{id_lane}
+use Rattle.std.specs.Prelude.{◌≡◌, ℕ, zero, suc, Bool, true, false, List, [], ◌∷◌, Option, Some, None}
 use Rattle.resh_oplog.specs.declared.piece.Piece.{Piece}
 use Rattle.resh_lane.specs.Lanes.{number_of}
 use Rattle.resh_setup.specs.declared.event.Event.{Event}
 use Rattle.resh_setup.specs.declared.event.Event.TheVariants.{Apply, Again}
 use Rattle.resh_setup.specs.declared.setup.Setup.{Setup}
-use Rattle.resh_events.specs.Cells.{Cluster, lane_in, link_in}
+use Rattle.resh_cells.specs.Cells.{lane_in, link_in}
+use Rattle.resh_cells.specs.Cuts.{cut_for, last_cut}
+use Rattle.resh_cells.specs.declared.cluster.Cluster.{Cluster}
 use Rattle.resh_events.specs.Plans.{Answers}
 use Rattle.resh_events.specs.Runs.{Moment, Owed, Run, after, moment, seen_of}
 use Rattle.resh_events.specs.Schedules.{IsSchedule}
@@ -18,25 +18,17 @@ use Rattle.resh_setup.specs.declared.trace.Met.TheVariants.{Row}
 use Rattle.resh_setup.specs.declared.seen.Seen.{Seen}
 use Rattle.resh_setup.specs.declared.seen.Seen.TheVariants.{Idle}
 
--- a piece stands at a position of a lane
-abbrev pub stands_at : ℕ → ℕ → ℕ → Piece → Bool
-stands_at lanes lane position piece = (piece.position == position) && (id_lane piece.id lanes == lane)
-
--- the piece of a position that was cut last
-abbrev pub last_cut : ℕ → List Piece → ℕ → ℕ → Option Piece
-last_cut lanes sent lane position = last_or None (filter (stands_at lanes lane position) sent)
-
 -- the piece that a step hands over
-abbrev pub piece_for : Setup → Cluster → Event → Option Piece
-piece_for setup cluster (Apply r d l) =
-    last_cut setup.lanes (link_in cluster r.0 d.0).sent l (number_of (lane_in cluster r.0 l).at d.0)
-piece_for setup cluster (Again r d l position) = last_cut setup.lanes (link_in cluster r.0 d.0).sent l position
-piece_for setup cluster other = None
+abbrev pub piece_for : Cluster → Event → Option Piece
+piece_for cluster (Apply r d l) =
+    last_cut (cut_for (link_in cluster r.0 d.0).sent l) (number_of (lane_in cluster r.0 l).at d.0)
+piece_for cluster (Again r d l position) = last_cut (cut_for (link_in cluster r.0 d.0).sent l) position
+piece_for cluster other = None
 
 -- an event that follows no other
 abbrev pub first_moment : Setup → Run → Event → Met → Moment
 first_moment setup run event met =
-    moment setup run event met (record { piece = piece_for setup run.cluster event; place = None })
+    moment setup run event met (record { piece = piece_for run.cluster event; place = None })
 
 -- the first event that is owed
 abbrev pub owed_moment : Setup → Run → Owed → Moment
@@ -67,7 +59,7 @@ lines_of setup run [] = []
 lines_of setup run (m ∷ ms) = (m.made.event, seen_of setup run m) ∷ lines_of setup (after setup run m) ms
 
 abbrev pub may_step : Setup → Cluster → Event → Bool
-may_step setup cluster event = may setup cluster event (piece_for setup cluster event)
+may_step setup cluster event = may setup cluster event (piece_for cluster event)
 
 -- a step from a run: the events that it makes, and what is seen
 pub data IsStep (setup : Setup) (run : Run) (event : Event) (moments : List Moment) (lines : List Line) : Type 0 where

@@ -8,7 +8,8 @@ use Rattle.resh_shard.specs.Writes.{shard_id}
 use Rattle.resh_setup.specs.declared.event.Event.{Event}
 use Rattle.resh_setup.specs.declared.event.Event.TheVariants.{Client, Begin, Tell, Advance, Clone, Fetch, Cut, Apply, Record, Report}
 use Rattle.resh_setup.specs.declared.setup.Setup.{Setup}
-use Rattle.resh_events.specs.Cells.{Cluster, link_in}
+use Rattle.resh_cells.specs.Cells.{link_in}
+use Rattle.resh_cells.specs.declared.cluster.Cluster.{Cluster}
 use Rattle.resh_events.specs.Runs.{Moment, Run, after_all}
 use Rattle.resh_events.specs.Steps.{IsStep, Line, may_step}
 use Rattle.resh_events.specs.Targets.{next_command}

@@ -6,8 +6,8 @@ use Rattle.resh_stamp.specs.declared.stamp.Stamp.{Stamp}
 use Rattle.resh_setup.specs.declared.event.Event.{Event}
 use Rattle.resh_setup.specs.declared.event.Event.TheVariants.{Client, Begin, Tell, Retell, Advance, Clone, Fetch, Cut, Apply, Again, Record, Crash, Report, Fail}
 use Rattle.resh_setup.specs.declared.setup.Setup.{Setup}
-use Rattle.resh_events.specs.Cells.{Cluster}
-use Rattle.resh_events.specs.Clocks.{Cell}
+use Rattle.resh_cells.specs.declared.cluster.Cluster.{Cluster}
+use Rattle.resh_cells.specs.declared.cell.Cell.{Cell}
 use Rattle.resh_setup.specs.declared.seen.Seen.{Seen}
 use Rattle.resh_events.specs.rows.Client as client
 use Rattle.resh_events.specs.rows.Begin as begin

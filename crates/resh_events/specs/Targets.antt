@@ -11,8 +11,11 @@ use Rattle.resh_shard.specs.declared.act.Which.{Which}
 use Rattle.resh_shard.specs.declared.act.Which.TheVariants.{Old, New}
 use Rattle.resh_model.specs.Orders.{commands_of}
 use Rattle.resh_setup.specs.declared.setup.Setup.{Setup}
-use Rattle.resh_events.specs.Cells.{Cluster, ShardCell, client_in, shard_in}
-use Rattle.resh_events.specs.Clocks.{Cell, shard_cell}
+use Rattle.resh_cells.specs.Cells.{client_in, shard_in}
+use Rattle.resh_cells.specs.declared.cluster.Cluster.{Cluster}
+use Rattle.resh_cells.specs.declared.cluster.ShardCell.{ShardCell}
+use Rattle.resh_cells.specs.declared.cell.Cell.{Cell}
+use Rattle.resh_cells.specs.declared.cell.Cell.TheVariants as named
 
 abbrev pub documents_at : Cluster → ℕ → List Document
 documents_at cluster s = documents_of (shard_in cluster s).shard
@@ -80,4 +83,4 @@ module _ (setup : Setup) (cluster : Cluster) where
 
 -- the cells of some shards, each once, by rising number
 abbrev pub shard_cells : Setup → List ℕ → List Cell
-shard_cells setup shards = map shard_cell (filter (is_among shards) (range_with_len 0 (length setup.shards)))
+shard_cells setup shards = map named.Shard (filter (is_among shards) (range_with_len 0 (length setup.shards)))

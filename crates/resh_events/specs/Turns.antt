@@ -8,7 +8,7 @@ use Rattle.resh_setup.specs.declared.event.Event.TheVariants.{Client}
 use Rattle.resh_setup.specs.declared.setup.Setup.{Setup}
 use Rattle.resh_setup.specs.declared.turn.Turn.{Turn}
 use Rattle.resh_setup.specs.declared.turn.Turn.TheVariants as turn
-use Rattle.resh_events.specs.Cells.{Cluster}
+use Rattle.resh_cells.specs.declared.cluster.Cluster.{Cluster}
 use Rattle.resh_events.specs.Runs.{Moment, Run, after}
 use Rattle.resh_events.specs.Targets.{next_command}
 use Rattle.resh_setup.specs.declared.trace.Met.{Met}

@@ -5,8 +5,10 @@ use Rattle.resh_stamp.specs.declared.stamp.Stamp.{Stamp}
 use Rattle.resh_coord.specs.Control.{advanced, may_advance}
 use Rattle.resh_coord.specs.declared.phase.Phase.{Phase}
 use Rattle.resh_coord.specs.declared.phase.Phase.TheVariants as phase
-use Rattle.resh_events.specs.Cells.{Cluster, on_control}
-use Rattle.resh_events.specs.Clocks.{Cell, coordinator}
+use Rattle.resh_cells.specs.Cells.{on_control}
+use Rattle.resh_cells.specs.declared.cluster.Cluster.{Cluster}
+use Rattle.resh_cells.specs.declared.cell.Cell.{Cell}
+use Rattle.resh_cells.specs.declared.cell.Cell.TheVariants as named
 use Rattle.resh_setup.specs.declared.seen.Seen.{Seen}
 use Rattle.resh_setup.specs.declared.seen.Seen.TheVariants.{Idle, PreparingToDonate, Cloning, Applying, BlockingWrites, Committing, Aborting, Done}
 
@@ -31,4 +33,4 @@ abbrev pub seen : Stamp → Cluster → Seen
 seen stamp cluster = phase_seen (advanced stamp.time cluster.control).phase
 
 abbrev pub holds : List Cell
-holds = coordinator ∷ []
+holds = named.Coordinator ∷ []

@@ -2,8 +2,10 @@
 use Rattle.std.specs.Prelude.{ℕ, ◌==◌, Bool, false, ◌&&◌, cond, nat_lt, List, [], ◌∷◌, Option, Some, None}
 use Rattle.resh_oplog.specs.declared.piece.Piece.{Piece}
 use Rattle.resh_lane.specs.Lanes.{LaneOf, number_of, taken}
-use Rattle.resh_events.specs.Cells.{Cluster, lane_in, on_lane}
-use Rattle.resh_events.specs.Clocks.{Cell, lane_cell}
+use Rattle.resh_cells.specs.Cells.{lane_in, on_lane}
+use Rattle.resh_cells.specs.declared.cluster.Cluster.{Cluster}
+use Rattle.resh_cells.specs.declared.cell.Cell.{Cell}
+use Rattle.resh_cells.specs.declared.cell.Cell.TheVariants as named
 use Rattle.resh_setup.specs.declared.seen.Seen.{Seen}
 use Rattle.resh_setup.specs.declared.seen.Seen.TheVariants.{Idle, Repeated, Ahead}
 use Rattle.resh_events.specs.rows.Apply.{is_at, is_given, piece_seen}
@@ -32,4 +34,4 @@ module _ (cluster : Cluster) (r d l : ℕ) where
   seen (Some piece) = given_seen (lane_in cluster r l) piece
 
 abbrev pub holds : ℕ → ℕ → List Cell
-holds r l = lane_cell r l ∷ []
+holds r l = named.Lane r l ∷ []

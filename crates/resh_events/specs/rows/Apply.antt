@@ -8,8 +8,10 @@ use Rattle.resh_oplog.specs.declared.piece.Piece.{Piece}
 use Rattle.resh_rules.specs.Pools.{rule_in, stashed}
 use Rattle.resh_rules.specs.declared.rule.Rule.{Rule}
 use Rattle.resh_lane.specs.Lanes.{LaneOf, number_of, taken}
-use Rattle.resh_events.specs.Cells.{Cluster, lane_in, on_lane}
-use Rattle.resh_events.specs.Clocks.{Cell, lane_cell}
+use Rattle.resh_cells.specs.Cells.{lane_in, on_lane}
+use Rattle.resh_cells.specs.declared.cluster.Cluster.{Cluster}
+use Rattle.resh_cells.specs.declared.cell.Cell.{Cell}
+use Rattle.resh_cells.specs.declared.cell.Cell.TheVariants as named
 use Rattle.resh_setup.specs.declared.seen.Seen.{Seen}
 use Rattle.resh_setup.specs.declared.seen.Seen.TheVariants.{Idle, Applied, Took}
 use Rattle.resh_setup.specs.declared.seen.WriteKind.{WriteKind}
@@ -54,4 +56,4 @@ module _ (cluster : Cluster) (r d l : ℕ) where
   seen (Some piece) = piece_seen (lane_in cluster r l) piece
 
 abbrev pub holds : ℕ → ℕ → List Cell
-holds r l = lane_cell r l ∷ []
+holds r l = named.Lane r l ∷ []

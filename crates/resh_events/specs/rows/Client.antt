@@ -15,8 +15,10 @@ use Rattle.resh_shard.specs.Shards.{taken_in, taken_out}
 use Rattle.resh_shard.specs.declared.act.Which.TheVariants.{New}
 use Rattle.resh_model.specs.Orders.{is_abort}
 use Rattle.resh_setup.specs.declared.setup.Setup.{Setup}
-use Rattle.resh_events.specs.Cells.{Cluster, client_in, on_client, on_control, on_shard, with_shard}
-use Rattle.resh_events.specs.Clocks.{Cell, coordinator, client_cell}
+use Rattle.resh_cells.specs.Cells.{client_in, on_client, on_control, on_shard, with_shard}
+use Rattle.resh_cells.specs.declared.cluster.Cluster.{Cluster}
+use Rattle.resh_cells.specs.declared.cell.Cell.{Cell}
+use Rattle.resh_cells.specs.declared.cell.Cell.TheVariants as named
 use Rattle.resh_events.specs.Targets.{all_at, all_targets, doing_of, has_map, is_free, next_command, shard_cells}
 use Rattle.resh_setup.specs.declared.seen.Seen.{Seen}
 use Rattle.resh_setup.specs.declared.seen.Seen.TheVariants.{Idle, Blocked, Refreshed, Command as Answered}
@@ -110,10 +112,10 @@ module _ (setup : Setup) (cluster : Cluster) where
   -- the coordinator for an abort, else the targets; and the client
   abbrev pub cells_for : ℕ → Command → List ℕ → List Cell
   cells_for c command shards =
-      cond (is_abort command) (coordinator ∷ client_cell c ∷ []) (shard_cells setup shards ++ client_cell c ∷ [])
+      cond (is_abort command) (named.Coordinator ∷ named.Client c ∷ []) (shard_cells setup shards ++ named.Client c ∷ [])
 
   abbrev pub cells_of : ℕ → Option Command → List Cell
-  cells_of c None = client_cell c ∷ []
+  cells_of c None = named.Client c ∷ []
   cells_of c (Some command) = cells_for c command (all_targets setup cluster c command)
 
   abbrev pub holds : ℕ → List Cell

@@ -7,8 +7,10 @@ use Rattle.resh_fetcher.specs.Links.{LinkOf, last_id, with_cloned}
 use Rattle.resh_bag.specs.Bag.{Document}
 use Rattle.resh_shard.specs.Shards.{Shard}
 use Rattle.resh_cloner.specs.Cloning.{left_after}
-use Rattle.resh_events.specs.Cells.{Cluster, link_in, on_link, shard_in}
-use Rattle.resh_events.specs.Clocks.{Cell, shard_cell, link_cell}
+use Rattle.resh_cells.specs.Cells.{link_in, on_link, shard_in}
+use Rattle.resh_cells.specs.declared.cluster.Cluster.{Cluster}
+use Rattle.resh_cells.specs.declared.cell.Cell.{Cell}
+use Rattle.resh_cells.specs.declared.cell.Cell.TheVariants as named
 use Rattle.resh_setup.specs.declared.seen.Seen.{Seen}
 use Rattle.resh_setup.specs.declared.seen.Seen.TheVariants.{GotEnd, GotMore}
 
@@ -49,4 +51,4 @@ module _ (cluster : Cluster) (r d : ℕ) where
   seen = got_seen (length got) (are_last (link_in cluster r d).link got)
 
 abbrev pub holds : ℕ → ℕ → List Cell
-holds r d = shard_cell d ∷ link_cell r d ∷ []
+holds r d = named.Shard d ∷ named.Link r d ∷ []

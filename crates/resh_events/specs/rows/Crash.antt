@@ -3,8 +3,11 @@ use Rattle.std.specs.Prelude.{ℕ, Bool, List, [], ◌∷◌, ◌++◌}
 use Rattle.resh_lane.specs.Lanes as lane
 use Rattle.resh_fetcher.specs.Links.{gone_back}
 use Rattle.resh_setup.specs.declared.setup.Setup.{Setup}
-use Rattle.resh_events.specs.Cells.{Cluster, lanes_of, link_in, on_link, with_lanes}
-use Rattle.resh_events.specs.Clocks.{Cell, lane_cells, link_cell}
+use Rattle.resh_cells.specs.Cells.{lanes_of, link_in, on_link, with_lanes}
+use Rattle.resh_cells.specs.declared.cluster.Cluster.{Cluster}
+use Rattle.resh_cells.specs.Clocks.{lane_cells}
+use Rattle.resh_cells.specs.declared.cell.Cell.{Cell}
+use Rattle.resh_cells.specs.declared.cell.Cell.TheVariants as named
 use Rattle.resh_setup.specs.declared.seen.Seen.{Seen}
 use Rattle.resh_setup.specs.declared.seen.Seen.TheVariants.{Back}
 
@@ -26,4 +29,4 @@ module _ (cluster : Cluster) (r d : ℕ) where
   seen = Back (link_in cluster r d).link.kept.place
 
 abbrev pub holds : Setup → ℕ → ℕ → List Cell
-holds setup r d = lane_cells setup r ++ link_cell r d ∷ []
+holds setup r d = lane_cells setup r ++ named.Link r d ∷ []

@@ -6,8 +6,10 @@ use Rattle.resh_fetcher.specs.Links.{failed}
 use Rattle.resh_coord.specs.Control.{unless_decided}
 use Rattle.resh_coord.specs.declared.cause.Cause.{Cause}
 use Rattle.resh_coord.specs.declared.cause.Cause.TheVariants as cause
-use Rattle.resh_events.specs.Cells.{Cluster, on_control, on_link}
-use Rattle.resh_events.specs.Clocks.{Cell, coordinator, link_cell}
+use Rattle.resh_cells.specs.Cells.{on_control, on_link}
+use Rattle.resh_cells.specs.declared.cluster.Cluster.{Cluster}
+use Rattle.resh_cells.specs.declared.cell.Cell.{Cell}
+use Rattle.resh_cells.specs.declared.cell.Cell.TheVariants as named
 use Rattle.resh_setup.specs.declared.seen.Seen.{Seen}
 use Rattle.resh_setup.specs.declared.seen.Seen.TheVariants.{Idle, Fails, FailsForMemory}
 
@@ -45,5 +47,5 @@ seen cluster link (cause.Clash shard id) = Idle
 seen cluster link (cause.Asked client number) = Idle
 
 abbrev pub holds : Option Link → List Cell
-holds None = coordinator ∷ []
-holds (Some link) = coordinator ∷ link_cell link.0.0 link.1.0 ∷ []
+holds None = named.Coordinator ∷ []
+holds (Some link) = named.Coordinator ∷ named.Link link.0.0 link.1.0 ∷ []

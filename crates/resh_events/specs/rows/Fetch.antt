@@ -5,8 +5,10 @@ use Rattle.resh_fetcher.specs.Conditions.{may_fetch}
 use Rattle.resh_fetcher.specs.Links.{next_entries, told_of, with_fetched}
 use Rattle.resh_fetcher.specs.declared.fetched.Fetched.{Fetched}
 use Rattle.resh_fetcher.specs.declared.fetched.Fetched.TheVariants as fetched
-use Rattle.resh_events.specs.Cells.{Cluster, link_in, on_link, shard_in}
-use Rattle.resh_events.specs.Clocks.{Cell, shard_cell, link_cell}
+use Rattle.resh_cells.specs.Cells.{link_in, on_link, shard_in}
+use Rattle.resh_cells.specs.declared.cluster.Cluster.{Cluster}
+use Rattle.resh_cells.specs.declared.cell.Cell.{Cell}
+use Rattle.resh_cells.specs.declared.cell.Cell.TheVariants as named
 use Rattle.resh_setup.specs.declared.seen.Seen.{Seen}
 use Rattle.resh_setup.specs.declared.seen.Seen.TheVariants.{Got, GotFinal, GotNothing}
 use Rattle.resh_events.specs.rows.Clone.{has_room}
@@ -30,4 +32,4 @@ module _ (cluster : Cluster) (r d : ℕ) where
   seen = fetched_seen (told_of got)
 
 abbrev pub holds : ℕ → ℕ → List Cell
-holds r d = shard_cell d ∷ link_cell r d ∷ []
+holds r d = named.Shard d ∷ named.Link r d ∷ []

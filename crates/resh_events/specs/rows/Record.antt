@@ -4,8 +4,11 @@ use Rattle.resh_lane.specs.Lanes.{LaneOf, number_of}
 use Rattle.resh_fetcher.specs.Conditions.{may_keep}
 use Rattle.resh_fetcher.specs.Links.{LinkOf, batch_kept, ends}
 use Rattle.resh_setup.specs.declared.setup.Setup.{Setup}
-use Rattle.resh_events.specs.Cells.{Cluster, lanes_of, link_in, on_link}
-use Rattle.resh_events.specs.Clocks.{Cell, lane_cells, link_cell}
+use Rattle.resh_cells.specs.Cells.{lanes_of, link_in, on_link}
+use Rattle.resh_cells.specs.declared.cluster.Cluster.{Cluster}
+use Rattle.resh_cells.specs.Clocks.{lane_cells}
+use Rattle.resh_cells.specs.declared.cell.Cell.{Cell}
+use Rattle.resh_cells.specs.declared.cell.Cell.TheVariants as named
 use Rattle.resh_setup.specs.declared.seen.Seen.{Seen}
 use Rattle.resh_setup.specs.declared.seen.Seen.TheVariants.{Kept, KeptLast}
 
@@ -33,4 +36,4 @@ module _ (cluster : Cluster) (r d : ℕ) where
       kept_seen l.kept.place l.kept.finished
 
 abbrev pub holds : Setup → ℕ → ℕ → List Cell
-holds setup r d = lane_cells setup r ++ link_cell r d ∷ []
+holds setup r d = lane_cells setup r ++ named.Link r d ∷ []

@@ -4,8 +4,9 @@ use Rattle.std.specs.Prelude.{ℕ, Bool, false, List, [], ◌∷◌, Option, Som
 use Rattle.resh_command.specs.declared.command.Command.{Command}
 use Rattle.resh_command.specs.declared.reply.Reply.TheVariants.{NoMemory}
 use Rattle.resh_setup.specs.declared.setup.Setup.{Setup}
-use Rattle.resh_events.specs.Cells.{Cluster}
-use Rattle.resh_events.specs.Clocks.{Cell, client_cell}
+use Rattle.resh_cells.specs.declared.cluster.Cluster.{Cluster}
+use Rattle.resh_cells.specs.declared.cell.Cell.{Cell}
+use Rattle.resh_cells.specs.declared.cell.Cell.TheVariants as named
 use Rattle.resh_events.specs.Targets.{first_targets, move_targets, next_command}
 use Rattle.resh_setup.specs.declared.seen.Seen.{Seen}
 use Rattle.resh_setup.specs.declared.seen.Seen.TheVariants.{Command as Answered}
@@ -29,7 +30,7 @@ module _ (setup : Setup) (cluster : Cluster) where
   -- the client, and the coordinator for an abort, else the shards to which the command goes first; once a move has
   -- begun it holds what the command holds that is answered
   abbrev pub cells_of : ℕ → Option Command → List Cell
-  cells_of c None = client_cell c ∷ []
+  cells_of c None = named.Client c ∷ []
   cells_of c (Some command) = client.cells_for setup cluster c command (first_targets setup cluster c command)
 
   abbrev pub holds : ℕ → List Cell

@@ -11,8 +11,12 @@ use Rattle.resh_coord.specs.Control.{may_report, with_report}
 use Rattle.resh_coord.specs.declared.phase.Phase.{Phase}
 use Rattle.resh_coord.specs.declared.phase.Phase.TheVariants as phase
 use Rattle.resh_setup.specs.declared.setup.Setup.{Setup}
-use Rattle.resh_events.specs.Cells.{Cluster, LinkCell, lanes_of, links_of, on_control, on_shard}
-use Rattle.resh_events.specs.Clocks.{Cell, coordinator, shard_cell, lane_cells, link_cells}
+use Rattle.resh_cells.specs.Cells.{lanes_of, links_of, on_control, on_shard}
+use Rattle.resh_cells.specs.declared.cluster.Cluster.{Cluster}
+use Rattle.resh_cells.specs.declared.cluster.LinkCell.{LinkCell}
+use Rattle.resh_cells.specs.Clocks.{lane_cells, link_cells}
+use Rattle.resh_cells.specs.declared.cell.Cell.{Cell}
+use Rattle.resh_cells.specs.declared.cell.Cell.TheVariants as named
 use Rattle.resh_setup.specs.declared.seen.Seen.{Seen}
 use Rattle.resh_setup.specs.declared.seen.Seen.TheVariants.{Idle, Cloned, Near, Consistent, Clash}
 
@@ -67,4 +71,4 @@ module _ (cluster : Cluster) (r : ℕ) where
 
 -- the coordinator, the shard, and all lanes and links whose recipient it is
 abbrev pub holds : Setup → ℕ → List Cell
-holds setup r = coordinator ∷ shard_cell r ∷ lane_cells setup r ++ link_cells setup r
+holds setup r = named.Coordinator ∷ named.Shard r ∷ lane_cells setup r ++ link_cells setup r

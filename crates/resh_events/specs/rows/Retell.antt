@@ -4,8 +4,10 @@ use Rattle.resh_progress.specs.Kinds.{Kind, ToPrepare, ToDonate, ToBlock, ToInst
 use Rattle.resh_progress.specs.Tellings.{has}
 use Rattle.resh_setup.specs.declared.event.MessageKind.{MessageKind}
 use Rattle.resh_setup.specs.declared.event.MessageKind.TheVariants.{Prepare, Donate, Block, Install, Release}
-use Rattle.resh_events.specs.Cells.{Cluster, shard_in}
-use Rattle.resh_events.specs.Clocks.{Cell, coordinator, shard_cell}
+use Rattle.resh_cells.specs.Cells.{shard_in}
+use Rattle.resh_cells.specs.declared.cluster.Cluster.{Cluster}
+use Rattle.resh_cells.specs.declared.cell.Cell.{Cell}
+use Rattle.resh_cells.specs.declared.cell.Cell.TheVariants as named
 use Rattle.resh_setup.specs.declared.seen.Seen.{Seen}
 use Rattle.resh_setup.specs.declared.seen.Seen.TheVariants.{NothingNew}
 
@@ -27,4 +29,4 @@ abbrev pub seen : Seen
 seen = NothingNew
 
 abbrev pub holds : ℕ → List Cell
-holds s = coordinator ∷ shard_cell s ∷ []
+holds s = named.Coordinator ∷ named.Shard s ∷ []

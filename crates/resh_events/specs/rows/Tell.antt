@@ -14,8 +14,12 @@ use Rattle.resh_coord.specs.Control.{is_true_at, may_tell, message_of, with_told
 use Rattle.resh_bag.specs.Bag.{Document}
 use Rattle.resh_shard.specs.Shards.{Shard, blocked_at, installed, prepared, pruned_to, released}
 use Rattle.resh_setup.specs.declared.setup.Setup.{Setup}
-use Rattle.resh_events.specs.Cells.{Cluster, ShardCell, lanes_of, on_control, on_links, on_shard, with_lanes, with_shard}
-use Rattle.resh_events.specs.Clocks.{Cell, coordinator, shard_cell, lane_cells, link_cells}
+use Rattle.resh_cells.specs.Cells.{lanes_of, on_control, on_links, on_shard, with_lanes, with_shard}
+use Rattle.resh_cells.specs.declared.cluster.Cluster.{Cluster}
+use Rattle.resh_cells.specs.declared.cluster.ShardCell.{ShardCell}
+use Rattle.resh_cells.specs.Clocks.{lane_cells, link_cells}
+use Rattle.resh_cells.specs.declared.cell.Cell.{Cell}
+use Rattle.resh_cells.specs.declared.cell.Cell.TheVariants as named
 use Rattle.resh_setup.specs.declared.seen.Seen.{Seen}
 use Rattle.resh_setup.specs.declared.seen.Seen.TheVariants.{Idle, Prepared, Donating, Blocked, Installed, Released}
 
@@ -99,4 +103,4 @@ seen cluster s = seen_of cluster s (message_of cluster.control)
 
 -- the coordinator, the shard, and all lanes and links whose recipient it is
 abbrev pub holds : Setup → ℕ → List Cell
-holds setup s = coordinator ∷ shard_cell s ∷ lane_cells setup s ++ link_cells setup s
+holds setup s = named.Coordinator ∷ named.Shard s ∷ lane_cells setup s ++ link_cells setup s

@@ -1,51 +1,20 @@
--- The cells of a cluster: the coordinator, the shards, the lanes, the links and the clients, with a clock beside each.
+-- The cells of a cluster, read and changed: the coordinator, the shards, the lanes by recipient and lane, the links by
+-- recipient and donor, the clients.
 use Rattle.std.specs.Prelude.{ℕ, List, [], map, slice_index_or, slice_set}
 use Rattle.resh_chunks.specs.Chunks.{Chunks}
-use Rattle.resh_oplog.specs.declared.piece.Piece.{Piece}
 use Rattle.resh_rules.specs.Pools.{empty_pool}
 use Rattle.resh_lane.specs.Lanes as lane
 use Rattle.resh_donor.specs.States as donor
 use Rattle.resh_recip.specs.States as recipient
 use Rattle.resh_fetcher.specs.Links.{LinkOf, fresh}
 use Rattle.resh_coord.specs.Control.{Control}
-use Rattle.resh_command.specs.declared.reply.Reply.{Reply}
 use Rattle.resh_shard.specs.Shards.{Shard, opened}
 use Rattle.resh_shard.specs.Writes.{shard_id}
-use Rattle.resh_shard.specs.declared.act.Which.{Which}
 use Rattle.resh_shard.specs.declared.act.Which.TheVariants.{Old}
-
--- a shard with its two machines
-pub record ShardCell : Type 0 where
-  pub shard : Shard
-  pub donor : donor.State
-  pub recipient : recipient.State
-
--- a link, and all pieces that it ever cut, in the order in which it cut them; a crash takes none of them away
-pub record LinkCell : Type 0 where
-  pub link : LinkOf
-  pub sent : List Piece
-
--- the map that a client knows, and the replies that it has
-pub record ClientCell : Type 0 where
-  pub knows : Which
-  pub replies : List Reply
-
--- the clocks, in the shapes of the cells
-pub record Clocks : Type 0 where
-  pub control : ℕ
-  pub shards : List ℕ
-  pub lanes : List (List ℕ)
-  pub links : List (List ℕ)
-  pub clients : List ℕ
-
--- lanes by recipient and lane, links by recipient and donor
-pub record Cluster : Type 0 where
-  pub control : Control
-  pub shards : List ShardCell
-  pub lanes : List (List lane.LaneOf)
-  pub links : List (List LinkCell)
-  pub clients : List ClientCell
-  pub clocks : Clocks
+use Rattle.resh_cells.specs.declared.cluster.ClientCell.{ClientCell}
+use Rattle.resh_cells.specs.declared.cluster.Cluster.{Cluster}
+use Rattle.resh_cells.specs.declared.cluster.LinkCell.{LinkCell}
+use Rattle.resh_cells.specs.declared.cluster.ShardCell.{ShardCell}
 
 -- what stands where no cell is
 abbrev pub no_map : Chunks

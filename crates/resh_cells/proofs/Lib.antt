@@ -1,0 +1,4 @@
+pub mod Places
+pub mod Below
+pub mod Joins
+pub mod LastCut
