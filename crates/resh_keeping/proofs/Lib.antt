@@ -1,0 +1,4 @@
+pub mod Places
+pub mod Shards
+pub mod Rows
+pub mod Kept
