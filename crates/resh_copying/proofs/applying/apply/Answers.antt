@@ -1,0 +1,32 @@
+use Rattle.std.proofs.Common.{◌≡◌}
+use Rattle.std.specs.Prelude.{IfOk}
+use Rattle.std.proofs.lemmas.Result.{on_err_weaker, on_ok_weaker}
+use Rattle.resh_lane.specs.Lanes.{LaneOf, taken}
+use Rattle.resh_setup.specs.declared.seen.Seen.{Seen}
+use Rattle.resh_events.specs.rows.Apply.{piece_seen}
+use Rattle.resh_copying.proofs.Rows.{lane_as_is, lane_set, lanes_as_is, of_lane}
+use Rattle.resh_copying.proofs.applying.apply.Goals as goal
+
+pub returns-in_default-get_mut-clause-unchanged : goal.returns-in_default-get_mut-clause-unchanged
+returns-in_default-get_mut-clause-unchanged c =
+    lanes_as_is c.args.cluster.now c.args.r.0 c.in-Some.lanes.now c.in-Some.ensures.value
+
+pub returns-clause-ok : goal.returns-clause-ok
+returns-clause-ok c =
+    on_ok_weaker c.take.result
+    (λ is. lane_set c.args.cluster.now c.args.r.0 c.args.lane c.in-Some.lanes.now c.in-Some-get_mut.cell.now c.in-Some.ensures.value c.in-Some-get_mut.ensures.value
+    (taken c.args.piece) c.take.new.cell is)
+    c.take.ensures.ok
+
+pub returns-clause-seen : goal.returns-clause-seen
+returns-clause-seen c =
+    of_lane c.args.cluster.now c.args.r.0 c.args.lane c.in-Some.lanes.now c.in-Some-get_mut.cell.now c.in-Some.ensures.value c.in-Some-get_mut.ensures.value
+    (λ (x : LaneOf). IfOk c.take.result (λ (seen : Seen). seen ≡ piece_seen x c.args.piece))
+    c.take.ensures.seen
+
+pub returns-clause-unchanged : goal.returns-clause-unchanged
+returns-clause-unchanged c =
+    on_err_weaker c.take.result
+    (λ is. lane_as_is c.args.cluster.now c.args.r.0 c.args.lane c.in-Some.lanes.now c.in-Some-get_mut.cell.now c.in-Some.ensures.value c.in-Some-get_mut.ensures.value
+    c.take.new.cell is)
+    c.take.ensures.unchanged
