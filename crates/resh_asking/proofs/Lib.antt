@@ -1,0 +1,10 @@
+pub mod Answering
+pub mod AtShards
+pub mod Becoming
+pub mod Doings
+pub mod Listed
+pub mod Merged
+pub mod Halved
+pub mod Readings
+pub mod MergedReply
+pub mod Turning
