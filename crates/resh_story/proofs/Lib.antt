@@ -1,0 +1,9 @@
+pub mod Acting
+pub mod Slots
+pub mod Entries
+pub mod Writes
+pub mod Feeding
+pub mod Telling
+pub mod Keeping
+pub mod Installing
+pub mod Logging
