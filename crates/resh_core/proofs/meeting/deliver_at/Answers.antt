@@ -1,0 +1,10 @@
+use Rattle.std.proofs.Common.{[], refl, sym}
+use Rattle.resh_luck.specs.Fates.{after_tries, no_calls}
+use Rattle.resh_events.specs.Follows.{limit}
+use Rattle.resh_core.proofs.ListLaws.{told_set}
+use Rattle.resh_core.proofs.meeting.deliver_at.Goals as goal
+
+pub returns-in-Some-clause-told : goal.returns-in-Some-clause-told
+returns-in-Some-clause-told g c =
+    told_set g.L.Luck.told (after_tries limit) c.args.lucks.now _ c.args.place c.in-Some.luck.now _ (no_calls [])
+    (sym c.in-Some.ensures.value) refl c.delivered.ensures.told
