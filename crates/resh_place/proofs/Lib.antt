@@ -1,0 +1,10 @@
+pub mod Lists
+pub mod Slots
+pub mod Clashes
+pub mod Taken
+pub mod Outputs
+pub mod Least
+pub mod Noting
+pub mod Mark
+pub mod Standing
+pub mod Cutting
