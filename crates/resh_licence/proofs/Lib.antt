@@ -1,0 +1,14 @@
+pub mod Places
+pub mod Numbers
+pub mod Links
+pub mod Controls
+pub mod Fitting
+pub mod Reasons
+pub mod Happening
+pub mod Fated
+pub mod Calling
+pub mod Shapes
+pub mod Licensing
+pub mod Licensed
+pub mod Calm
+pub mod Stepping
