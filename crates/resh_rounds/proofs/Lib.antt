@@ -1,0 +1,11 @@
+pub mod Sums
+pub mod Stages
+pub mod Spending
+pub mod Supplying
+pub mod Stepping
+pub mod Serving
+pub mod Running
+pub mod Asking
+pub mod Moving
+pub mod Rounds
+pub mod Working

@@ -1,0 +1,5 @@
+pub mod Sums
+pub mod Supplies
+pub mod Rounds
+pub mod Serving
+pub mod Working
