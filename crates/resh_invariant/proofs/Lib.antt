@@ -1,0 +1,9 @@
+pub mod Growing
+pub mod Waiting
+pub mod Framing
+pub mod Going
+pub mod Finishing
+pub mod Loading
+pub mod Opening
+pub mod Ones
+pub mod Steering

@@ -1,0 +1,5 @@
+pub mod Cloning
+pub mod Fetching
+pub mod Cutting
+pub mod Recording
+pub mod Rows
