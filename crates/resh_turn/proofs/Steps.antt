@@ -125,6 +125,11 @@ module _ {S T G : Type 0} (start : S → G) (journal : S → List (Made T)) wher
   begins_at x y passes items is same room fresh =
       subst (λ (z : List (Option S) × S). Kept start journal (start z.1) passes (opening (0 ∷ []) z.0 (opened (start z.1)))) (λ i. (sym is i, sym same i)) (begins x passes room fresh)
 
+  pub begins_with : (x : S) (begun : G) (passes : ℕ) (items : List (Option S)) → items ≡ Some x ∷ [] → start x ≡ begun → 0 < passes → journal x ≡ []
+      → Kept start journal begun passes (opening (0 ∷ []) items (opened begun))
+  begins_with x begun passes items is same room fresh =
+      subst (λ (z : List (Option S) × G). Kept start journal z.1 passes (opening (0 ∷ []) z.0 (opened z.1))) (λ i. (sym is i, same i)) (begins x passes room fresh)
+
   -- what a step owes where the words and the homes are these
   abbrev Owes : G → ℕ → List V → ℕ → Me (Option S) V → (ℕ → ℕ) → (ℕ → Me (Option S) V → Type 0) → List ℕ → List (Maybe (Option S)) → Type 0
   Owes begun passes views seat me f then words homes =

@@ -1,5 +1,5 @@
 -- The rule of a cell with turns: of its word, of its slot, and of what each pass knows.
-use Rattle.std.specs.Prelude.{◌≡◌, Bool, ℕ, ◌+◌, ◌<◌, ◌≤◌, true, false, List, [], ◌∷◌, length, Option, Some, None, ◌==◌, ◌⊎◌, MatchBool}
+use Rattle.std.specs.Prelude.{Box, ◌≡◌, Bool, ℕ, ◌+◌, ◌<◌, ◌≤◌, true, false, List, [], ◌∷◌, length, Option, Some, None, ◌==◌, ◌⊎◌, MatchBool}
 use mathlib.Core.Option.{some, none, Option as Maybe}
 use lib.ListN.{get_elem?}
 use Rattle.atomic_table.specs.Table.{State, Me, Step}
@@ -7,6 +7,10 @@ use Rattle.resh_turn.specs.declared.story.Made.{Made}
 use Rattle.resh_turn.specs.declared.rule.Known.{Known}
 use Rattle.resh_turn.specs.declared.rule.View.{View}
 use Rattle.resh_turn.specs.Replay.{own_of, IsFront, Each}
+
+-- what a box holds has
+abbrev pub boxed : {S Z R : Type 0} → (S → R) → Box S Z → R
+boxed f b = f b.value
 
 abbrev pub known : {T : Type 0} → ℕ → List (Made T) → List (Made T) → Known T
 known number seen own = record { number = number; seen = seen; own = own }

@@ -17,7 +17,13 @@ use std::sync::Wait;
 use std::thread::yield_now;
 
 // The table under a cell: one word, free or taken, and one slot, with the value.
-type TurnTable<S: Journal> = Table<Option<S>, View<S::Step, S::State>, Begun<S>, Turns, Global>;
+type TurnTable<S: Journal> = Table<
+    Option<Box<S>>,
+    View<S::Step, S::State>,
+    Begun<S>,
+    Turns,
+    Global,
+>;
 
 const FREE: u64 = 0;
 
@@ -46,24 +52,25 @@ impl<S: Journal> Model for TurnCell<S> {
 
 /// The turn of a cell, with its value. End it by `give`.
 pub struct Hold<'a, S: Journal> {
+    story: Box<S>,
     cell: &'a TurnCell<S>,
-    number: u32,
     seat: TurnSeat<S>,
-    story: S,
+    number: u32,
 }
 
 impl<'a, S: Journal> Model for Hold<'a, S> {
     ghost use Rattle.std.specs.Prelude.{◌≡◌};
     ghost use Rattle.resh_turn.specs.Held.{Held, IsHeld, held_code};
+    ghost use Rattle.resh_turn.specs.Turns.{boxed};
 
     ghost Value = { Held S };
 
     ghost coded = { held_code S.code };
 
-    ghost view = { λ h. record { cell = h.seat.table_id; number = h.number; story = h.story } };
+    ghost view = { λ h. record { cell = h.seat.table_id; number = h.number; story = h.story.value } };
 
     ghost invariant = { λ h. (h.seat.table_id ≡ h.cell.now.cell)
-        × IsHeld S.start S.journal h.number h.seat.me h.story };
+        × IsHeld (boxed S.start) (boxed S.journal) h.number h.seat.me h.story };
 }
 
 impl<S: Journal> TurnCell<S> {
@@ -126,7 +133,7 @@ impl<S: Journal> TurnCell<S> {
         let story = closed.take(0);
         closed.free();
         let Some(story) = story else { unreachable!() };
-        story
+        Box::into_inner(story)
     }
 
     // All passes, from the seat of the first.
@@ -182,8 +189,9 @@ impl<S: Journal> TurnCell<S> {
             value: Snapshot::of(&start),
             passes,
         };
+        let story = Box::new(alloc, start)?;
         let mut slots = Vec::with_capacity(alloc, 1)?;
-        slots.push_reserved(Some(start));
+        slots.push_reserved(Some(story));
         let Ok((table, seat)) = Table::new(alloc, &[FREE], slots, &about) else {
             return Err(NoMemory);
         };

@@ -10,7 +10,7 @@ use atomic_table::Seat;
 use std::alloc::Global;
 use std::marker::Model;
 
-pub(crate) type TurnSeat<S: Journal> = Seat<Option<S>, View<S::Step, S::State>>;
+pub(crate) type TurnSeat<S: Journal> = Seat<Option<Box<S>>, View<S::Step, S::State>>;
 
 /// The right to take the turn of one cell.
 #[derive(Drop)]

@@ -1,6 +1,6 @@
 //! The rule of a cell with turns, and what each of its steps tells.
 
-ghost use Rattle.resh_turn.specs.Turns.{gathering, newcomer, releasing, spent, taking, with_one_more};
+ghost use Rattle.resh_turn.specs.Turns.{boxed, gathering, newcomer, releasing, spent, taking, with_one_more};
 
 use crate::story::{Journal, Made};
 use atomic_table::{Join, Play, Split, TableRule};
@@ -42,24 +42,24 @@ pub(crate) struct Begun<S> {
 /// One value, changed by who holds the turn.
 pub struct Turns;
 
-impl<S: Journal> TableRule<Option<S>, View<S::Step, S::State>, Begun<S>> for Turns {
-    ghost use Rattle.resh_turn.specs.Turns.{Kept, opened};
+impl<S: Journal> TableRule<Option<Box<S>>, View<S::Step, S::State>, Begun<S>> for Turns {
+    ghost use Rattle.resh_turn.specs.Turns.{Kept, boxed, opened};
 
-    ghost holds = { λ key. Kept S.start S.journal (S.start key.value.value) key.passes };
+    ghost holds = { λ key. Kept (boxed S.start) (boxed S.journal) (S.start key.value.value) key.passes };
 
     ghost first = { λ key. opened (S.start key.value.value) };
 }
 
 pub(crate) struct Take;
 
-impl<S: Journal> Play<Option<S>, View<S::Step, S::State>> for Take {
-    ghost then = { taking S.start S.journal };
+impl<S: Journal> Play<Option<Box<S>>, View<S::Step, S::State>> for Take {
+    ghost then = { taking (boxed S.start) (boxed S.journal) };
 }
 
 pub(crate) struct Release;
 
-impl<S: Journal> Play<Option<S>, View<S::Step, S::State>> for Release {
-    ghost then = { releasing S.start S.journal };
+impl<S: Journal> Play<Option<Box<S>>, View<S::Step, S::State>> for Release {
+    ghost then = { releasing (boxed S.start) (boxed S.journal) };
 }
 
 /// One more pass is made.
