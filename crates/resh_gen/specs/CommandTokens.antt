@@ -8,7 +8,8 @@ use Rattle.resh_value.specs.Text.{tokens_of, document_tokens, object_tokens}
 use Rattle.resh_ops.specs.Paths.{dotted}
 use Rattle.resh_ops.specs.declared.operator.Action.{Action}
 use Rattle.resh_ops.specs.declared.operator.Operator.{Operator}
-use Rattle.resh_ops.specs.declared.operator.Operator.TheVariants.{AddToSet, Inc, Max, Min, Mul, Pop, Push, Rename, Set, Unset}
+use Rattle.resh_ops.specs.declared.operator.Operator.TheVariants.{AddToSet, Inc, Max, Min, Mul, Pop, Push, Rename, Set}
+use Rattle.resh_ops.specs.declared.operator.Operator.TheVariants.{Unset}
 use Rattle.resh_ops.specs.declared.operator.Side.{Side}
 use Rattle.resh_ops.specs.declared.operator.Side.TheVariants.{First, Last}
 use Rattle.resh_command.specs.declared.command.Command.{Command}

@@ -6,3 +6,4 @@ pub mod Json
 pub mod Generated
 pub mod CommandTokens
 pub mod SetupText
+pub mod Summary

@@ -2,7 +2,8 @@
 
 ghost use Rattle.std.specs.Prelude.{◌≡◌, [], ◌∷◌, ◌++◌, map, flat_map, filter, OnOk};
 ghost use Rattle.std.specs.List.{list_any};
-ghost use Rattle.resh_gen.specs.CommandTokens.{action_tokens, command_tokens, is_of, operand_tokens, operator_name, operator_names, operator_tokens, update_tokens};
+ghost use Rattle.resh_gen.specs.CommandTokens.{action_tokens, command_tokens, is_of, operand_tokens, operator_name};
+ghost use Rattle.resh_gen.specs.CommandTokens.{operator_names, operator_tokens, update_tokens};
 ghost use Rattle.json.specs.Token.{key};
 ghost use Rattle.resh_value.specs.Text.{array_tokens, document_tokens};
 

@@ -4,7 +4,8 @@ ghost use Rattle.std.specs.Prelude.{◌≡◌, [], ◌∷◌, ◌++◌, map, cod
 ghost use Rattle.json.specs.Token.{key, number};
 ghost use Rattle.resh_value.specs.Text.{array_tokens, document_tokens, tokens_of};
 ghost use Rattle.resh_gen.specs.Generated.{generated};
-ghost use Rattle.resh_gen.specs.SetupText.{bound_tokens, chunk_tokens, client_tokens, name_tokens, names_tokens, setup_text, setup_tokens};
+ghost use Rattle.resh_gen.specs.SetupText.{bound_tokens, chunk_tokens, client_tokens, name_tokens, names_tokens};
+ghost use Rattle.resh_gen.specs.SetupText.{setup_text, setup_tokens};
 
 use crate::command_text::write_commands;
 use crate::setup::generate;

@@ -7,6 +7,8 @@ mod documents;
 mod draws;
 mod file_text;
 mod setup;
+mod summaries;
 
 pub use file_text::{generated_text, setup_text};
 pub use setup::generate;
+pub use summaries::summary;

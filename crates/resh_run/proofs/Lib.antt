@@ -1,4 +1,10 @@
+mod GeneratedSetups
 mod Meant
 mod Outcomes
 pub mod Pages
 pub mod PlacementPlaces
+mod Runs
+mod Steps
+mod Taken
+pub mod WordLemmas
+pub mod Licences

@@ -3,7 +3,7 @@ use Rattle.std.proofs.Common.{◌≡◌, ◌≢◌, ℕ, ◌+◌, ◌<◌, ◌�
 use Rattle.std.specs.declared.alloc.Global.{Global}
 use Rattle.resh_io.specs.Causes.{Rose}
 use Rattle.resh_io.specs.Reading.{GivesFirst}
-use Rattle.resh_coord.specs.declared.cause.Cause.TheVariants.{Clash, Asked, Failed, NoMemory as Wanting}
+use Rattle.resh_coord.specs.declared.cause.Cause.TheVariants.{Clash, Asked as AskedFor, Failed, NoMemory as Wanting}
 use Rattle.resh_coord.specs.declared.cause.End.{End}
 use Rattle.resh_coord.specs.declared.cause.End.TheVariants.{Committed, Aborted}
 use Rattle.resh_setup.specs.declared.setup.Setup.{Setup}
@@ -16,31 +16,53 @@ use Rattle.resh_model.specs.MarkLaws.{is_failure}
 use Rattle.resh_model.specs.Orders.{IsLawful}
 use Rattle.resh_model.proofs.orders.MarkCauses.{commits_else, one_mark_without_clients}
 use Rattle.resh_config.specs.ClusterFile.{IsSetup, IsRefused}
+use Rattle.resh_report.specs.Checked.{checked_text}
 use Rattle.resh_report.specs.Refusals.{refusal_text}
+use Rattle.resh_gen.specs.Generated.{generated}
+use Rattle.resh_gen.specs.SetupText.{setup_text}
 use Rattle.resh_run.specs.Answer.{said}
-use Rattle.resh_run.specs.Promises.{IsAskedFor, IsFed, IsFedSetup, Headline, Refuses, RefusesFaults, RefusesUnbuilt, RefusesLong, Completes, Commits, RunsOneMark, RunsNothing, FailsToWrite}
-use Rattle.resh_run.specs.Said.{IsSaid, BytesSay, FaultSays}
+use Rattle.resh_run.specs.Promises.{IsAskedFor, IsAskedToPlace, Feeds, FeedsSetup, Headline, RunsCluster, Says, TellsUsage, RefusesFaults, RefusesLong, Checks, Prints, Sums, Completes, Commits, RunsOneMark, RunsNothing, FailsToWrite}
+use Rattle.resh_run.specs.Said.{IsSaid, wrong, wanting, ran as for_run, checked as for_check, numbered, BytesSay, CheckSays, FaultSays, FileSays, PrintSays, SumSays}
 use Rattle.resh_run.specs.Seen.{Seen}
-use Rattle.resh_run.specs.Top.{Saying, alone, said_in, IsRunOf, IsWhole, HasNotFailed, Means, usage, read_fault, too_long, refused, not_built, ran, no_memory, IsSent, whole, cut, IsOutcome, is_plain, input_limit, is_unbuilt, status_of, too_long_text, not_built_text}
+use Rattle.resh_run.specs.Top.{Saying, alone, said_in, IsRunOf, IsWhole, HasNotFailed, Means, usage, read_fault, too_long, refused, ran, no_memory, checked, summed, printed, IsClusterRunOf, IsPlacement, IsSummaryOf, RunsTo, placed, clustered, Asks, is_fed, is_running, is_served, IsSent, whole, cut, IsOutcome, input_limit, needs_cluster, status_of, too_long_text, usage_text}
+use Rattle.resh_run.specs.Words.{asked_by, asked_of}
+use Rattle.resh_run.specs.declared.words.Asked.{Asked}
+use Rattle.resh_run.specs.declared.words.Asked.TheVariants.{Plain, Check, Run, Generate}
+use Rattle.resh_run.specs.declared.decision.Purpose.{Purpose}
+use Rattle.resh_run.specs.declared.decision.Purpose.TheVariants.{ToRun, ToCheck}
 use Rattle.resh_run.specs.declared.decision.Said.{Said}
-use Rattle.resh_run.specs.declared.decision.Said.TheVariants.{Usage, ReadFault, TooLong, NotBuilt, NoMemory, Refused, Ran}
+use Rattle.resh_run.specs.declared.decision.Said.TheVariants.{Usage, ReadFault, TooLong, NoMemory, Refused, Ran, Checked, Printed}
 use Rattle.resh_run.specs.declared.plain.Outcome.{Outcome}
 use Rattle.resh_run.proofs.Outcomes.{one_setup, one_fault, not_both, given_told}
+use Rattle.resh_run.proofs.Pages.{without_clients}
+use Rattle.resh_run.proofs.WordLemmas.{none_asked}
 
-pub fault_bytes : (bytes : List ℕ) (fault : SetupFault) (s : Said) → (fault ≢ InSetup.NoMemory → IsRefused bytes fault) → FaultSays fault s → BytesSay bytes s
-fault_bytes bytes fault Usage is h = h
-fault_bytes bytes fault ReadFault is h = h
-fault_bytes bytes fault TooLong is h = h
-fault_bytes bytes fault NotBuilt is h = absurd h
-fault_bytes bytes fault NoMemory is h = tt
-fault_bytes bytes fault (Refused text) is h = (fault, is h.0, h.1)
-fault_bytes bytes fault (Ran order end page) is h = absurd h
+pub fault_bytes : (purpose : Purpose) (bytes : List ℕ) (fault : SetupFault) (s : Said) → (fault ≢ InSetup.NoMemory → IsRefused bytes fault) → FaultSays fault s
+    → BytesSay purpose bytes s
+fault_bytes purpose bytes fault Usage is h = h
+fault_bytes purpose bytes fault ReadFault is h = h
+fault_bytes purpose bytes fault TooLong is h = h
+fault_bytes purpose bytes fault NoMemory is h = tt
+fault_bytes purpose bytes fault (Refused text) is h = (fault, is h.0, h.1)
+fault_bytes purpose bytes fault (Ran order end page trace) is h = absurd h
+fault_bytes purpose bytes fault (Checked text) is h = absurd h
+fault_bytes purpose bytes fault (Printed text) is h = h
+
+pub check_bytes : (purpose : Purpose) (bytes : List ℕ) (setup : Setup) (s : Said) → purpose ≡ ToCheck → IsSetup bytes setup → CheckSays setup s → BytesSay purpose bytes s
+check_bytes purpose bytes setup Usage to is h = absurd h
+check_bytes purpose bytes setup ReadFault to is h = absurd h
+check_bytes purpose bytes setup TooLong to is h = absurd h
+check_bytes purpose bytes setup NoMemory to is h = tt
+check_bytes purpose bytes setup (Refused text) to is h = absurd h
+check_bytes purpose bytes setup (Ran order end page trace) to is h = absurd h
+check_bytes purpose bytes setup (Checked text) to is h = (to, (setup, is, h))
+check_bytes purpose bytes setup (Printed text) to is h = absurd h
 
 -- what isn't a failure wants no licence
-licensed : (plan : List Planned) (steps : Who → ℕ) (end : End) → is_failure end ≡ false → HasLicence plan steps end
+pub licensed : (plan : List Planned) (steps : Who → ℕ) (end : End) → is_failure end ≡ false → HasLicence plan steps end
 licensed plan steps Committed well = tt
 licensed plan steps (Aborted (Clash shard id)) well = tt
-licensed plan steps (Aborted (Asked client number)) well = tt
+licensed plan steps (Aborted (AskedFor client number)) well = tt
 licensed plan steps (Aborted (Failed node why)) well = cc
 licensed plan steps (Aborted Wanting) well = tt
 
@@ -62,19 +84,78 @@ other_status s n m t is at apart = apart (sym (ap (λ x. x.meant) is) ∙ at)
 not_low : (s : Saying) (n : ℕ) (t : List ℕ) → s ≡ alone n t → 1 < n → s.meant ≤ 1 → ⊥
 not_low s n t is high low = let same : s.meant ≡ n = ap (λ x. x.meant) is in omega (arith, same, high, low)
 
+-- the status of a run is that of its end
+runs_low : (setup : Setup) (s : Saying) → RunsTo setup s → s.meant ≤ 1
+runs_low setup s (placed p) = let low = low_status p.run.ended in let is = p.run.meant_is in omega (arith, low, is)
+runs_low setup s (clustered needs c) = let low = low_status c.ended in let is = c.ends.meant_is in omega (arith, low, is)
+
+-- and a run without a cluster is a placement
+runs_placed : (setup : Setup) (s : Saying) → needs_cluster setup ≡ false → RunsTo setup s → IsPlacement setup s
+runs_placed setup s fails (placed p) = p
+runs_placed setup s fails (clustered needs c) = let clash : true ≡ false = sym needs ∙ fails in absurd (cc)
+
+runs_clustered : (setup : Setup) (s : Saying) → needs_cluster setup ≡ true → RunsTo setup s → IsClusterRunOf setup s
+runs_clustered setup s holds (placed p) = let clash : true ≡ false = sym holds ∙ p.needs in absurd (cc)
+runs_clustered setup s holds (clustered needs c) = c
+
+summed_low : (number : ℕ) (s : Saying) → IsSummaryOf number s → s.meant ≤ 1
+summed_low number s is = let low = low_status is.ended in let at = is.ends.meant_is in omega (arith, low, at)
+
+-- what is fed is served
+served_if_fed : (o : Option Asked) → is_fed o ≡ true → is_served o ≡ true
+served_if_fed None e = e
+served_if_fed (Some Plain) e = refl
+served_if_fed (Some Check) e = refl
+served_if_fed (Some (Run workers)) e = e
+served_if_fed (Some (Generate number print)) e = refl
+
 module _ (words : List (String Global)) (source : Seen) where
+  -- one test of what is asked isn't true and false
+  unlike : {A : Type 0} (test : Option Asked → Bool) → test (asked_by words) ≡ true → test (asked_by words) ≡ false → A
+  unlike test holds fails = absurd (let clash : true ≡ false = sym holds ∙ fails in cc)
+
+  -- where something is done there are words
+  some_words : is_served (asked_by words) ≡ true → words ≢ []
+  some_words holds none = unlike is_served holds (ap (λ w. is_served (asked_by w)) none ∙ ap is_served none_asked)
+
+  file_means : (purpose : Purpose) (s : Said) → is_fed (asked_by words) ≡ true → (purpose ≡ ToRun → Asks words Plain) → (purpose ≡ ToCheck → Asks words Check)
+      → FileSays purpose source s → Means words source (said s)
+  file_means purpose Usage fed run check h = absurd h
+  file_means purpose ReadFault fed run check h = read_fault fed h refl
+  file_means purpose TooLong fed run check h = too_long fed h refl
+  file_means purpose NoMemory fed run check h = no_memory (some_words (served_if_fed (asked_by words) fed)) (λ fails. unlike is_fed fed fails) refl
+  file_means purpose (Refused text) fed run check h = refused h.bytes h.says.0 fed h.whole h.says.1 (ap (alone 3) h.says.2)
+  file_means purpose (Ran order end page trace) fed run check h = ran h.bytes h.says.1.0 (run h.says.0) h.whole h.says.1.1 h.says.1.2
+  file_means purpose (Checked text) fed run check h = checked h.bytes h.says.1.0 (check h.says.0) h.whole h.says.1.1 (ap (alone 0) h.says.1.2)
+  file_means purpose (Printed text) fed run check h = absurd h
+
+  print_means : (number : ℕ) (s : Said) → Asks words (Generate number true) → source.new ≡ source.old → PrintSays number s → Means words source (said s)
+  print_means number Usage asks same h = absurd h
+  print_means number ReadFault asks same h = absurd h
+  print_means number TooLong asks same h = absurd h
+  print_means number NoMemory asks same h = no_memory (some_words (ap is_served asks)) (λ fails. same) refl
+  print_means number (Refused text) asks same h = absurd h
+  print_means number (Ran order end page trace) asks same h = absurd h
+  print_means number (Checked text) asks same h = absurd h
+  print_means number (Printed text) asks same h = printed number asks same (ap (alone 0) h)
+
+  sum_means : (number : ℕ) (s : Said) → Asks words (Generate number false) → source.new ≡ source.old → SumSays number s → Means words source (said s)
+  sum_means number Usage asks same h = absurd h
+  sum_means number ReadFault asks same h = absurd h
+  sum_means number TooLong asks same h = absurd h
+  sum_means number NoMemory asks same h = no_memory (some_words (ap is_served asks)) (λ fails. same) refl
+  sum_means number (Refused text) asks same h = absurd h
+  sum_means number (Ran order end page trace) asks same h = summed number asks same h
+  sum_means number (Checked text) asks same h = absurd h
+  sum_means number (Printed text) asks same h = absurd h
+
   pub means : (s : Said) → IsSaid words source s → Means words source (said s)
-  means Usage h = usage h.0 h.1 refl
-  means ReadFault h = read_fault h.0 h.1 refl
-  means TooLong h = too_long h.0 h.1 refl
-  means NotBuilt h = not_built h.1.bytes h.1.says.0 h.0 h.1.whole h.1.says.1 h.1.says.2 refl
-  means NoMemory h = no_memory h refl
-  means (Refused text) h = refused h.1.bytes h.1.says.0 h.0 h.1.whole h.1.says.1 (ap (alone 3) h.1.says.2)
-  means (Ran order end page) h =
-      let page_of = h.1.says.2 in
-      ran h.1.bytes h.1.says.0 h.0 h.1.whole h.1.says.1 page_of.built
-      (record { ended = end; lawful = page_of.lawful; licensed = licensed h.1.says.0.plan (crash_steps h.1.says.0) end page_of.well; end_is = refl; meant_is = refl; page_is = page_of.text })
-      (λ ended is. let same : end ≡ ended = cc in sym (ap is_failure same) ∙ page_of.well)
+  means s (wrong fails same e) = usage fails same (ap said e)
+  means s (wanting some same e) = no_memory some (λ fails. same) (ap said e)
+  means s (for_run asks h) = file_means ToRun s (ap is_fed asks) (λ e. asks) (λ e. cc) h
+  means s (for_check asks h) = file_means ToCheck s (ap is_fed asks) (λ e. cc) (λ e. asks) h
+  means s (numbered number true asks same h) = print_means number s asks same h
+  means s (numbered number false asks same h) = sum_means number s asks same h
 
   module _ (s : Saying) where
     -- a whole input is the one that was told
@@ -93,126 +174,181 @@ module _ (words : List (String Global)) (source : Seen) where
         let same = given_told source.old.bytes source.new.bytes bytes b told w.all in
         not_both bytes setup fault (subst (λ x. IsSetup x setup) same i) is
 
-    unplain : {A : Type 0} → is_plain words ≡ true → is_plain words ≡ false → A
-    unplain p q = absurd (let clash : true ≡ false = sym p ∙ q in cc)
-
     -- a status of at most 1 is that of the setup's own run
-    runs : (setup : Setup) → IsAskedFor words source setup → s.meant ≤ 1 → Means words source s → IsRunOf setup s
-    runs setup asked low (usage p same is) = absurd (not_low s 2 _ is (omega arith) low)
-    runs setup asked low (read_fault p r is) = absurd (not_low s 4 _ is (omega arith) low)
-    runs setup asked low (too_long p g is) = absurd (not_low s 3 _ is (omega arith) low)
-    runs setup asked low (refused b f p w r is) = absurd (not_low s 3 _ is (omega arith) low)
-    runs setup asked low (not_built b t p w i u is) = absurd (not_low s 3 _ is (omega arith) low)
-    runs setup asked low (ran b t p w i u run well) = subst (λ x. IsRunOf x s) (same_setup asked.bytes b setup t asked.told w i asked.is) run
-    runs setup asked low (no_memory p is) = absurd (not_low s 6 _ is (omega arith) low)
+    runs : (setup : Setup) → IsAskedFor words source setup → s.meant ≤ 1 → Means words source s → RunsTo setup s
+    runs setup asked low (usage p same e) = absurd (not_low s 2 _ e (omega arith) low)
+    runs setup asked low (read_fault p r e) = absurd (not_low s 4 _ e (omega arith) low)
+    runs setup asked low (too_long p g e) = absurd (not_low s 3 _ e (omega arith) low)
+    runs setup asked low (refused b f p w r e) = absurd (not_low s 3 _ e (omega arith) low)
+    runs setup asked low (ran b t p w i run) = subst (λ x. RunsTo x s) (same_setup asked.bytes b setup t asked.told w i asked.is) run
+    runs setup asked low (checked b t p w i e) = unlike is_running (ap is_running asked.plain) (ap is_running p)
+    runs setup asked low (summed n p same is) = unlike is_fed (ap is_fed asked.plain) (ap is_fed p)
+    runs setup asked low (printed n p same e) = unlike is_fed (ap is_fed asked.plain) (ap is_fed p)
+    runs setup asked low (no_memory some same e) = absurd (not_low s 6 _ e (omega arith) low)
 
-    refuses_fault : (bytes : List ℕ) (fault : SetupFault) → IsFed words source bytes → IsRefused bytes fault → Means words source s → (s.meant ≡ 6) ⊎ (s ≡ alone 3 (refusal_text fault))
-    refuses_fault bytes fault fed is (usage p same e) = unplain fed.plain p
-    refuses_fault bytes fault fed is (read_fault p r e) = absurd (fed.calm r)
-    refuses_fault bytes fault fed is (too_long p g e) = absurd (not_short source.old.bytes source.new.bytes bytes fed.told fed.short g)
-    refuses_fault bytes fault fed is (refused b f p w r e) =
+    refuses_fault : (bytes : List ℕ) (fault : SetupFault) → is_fed (asked_by words) ≡ true → Feeds source bytes → IsRefused bytes fault → Means words source s → (s.meant ≡ 6) ⊎ (s ≡ alone 3 (refusal_text fault))
+    refuses_fault bytes fault holds fed is (usage p same e) = unlike is_served (served_if_fed (asked_by words) holds) p
+    refuses_fault bytes fault holds fed is (read_fault p r e) = absurd (fed.calm r)
+    refuses_fault bytes fault holds fed is (too_long p g e) = absurd (not_short source.old.bytes source.new.bytes bytes fed.told fed.short g)
+    refuses_fault bytes fault holds fed is (refused b f p w r e) =
         let same = given_told source.old.bytes source.new.bytes bytes b fed.told w.all in
         inr (e ∙ ap (λ x. alone 3 (refusal_text x)) (one_fault bytes f fault (subst (λ x. IsRefused x f) same r) is))
-    refuses_fault bytes fault fed is (not_built b t p w i u e) = absurd (not_setup bytes b t fault fed.told w i is)
-    refuses_fault bytes fault fed is (ran b t p w i u run well) = absurd (not_setup bytes b t fault fed.told w i is)
-    refuses_fault bytes fault fed is (no_memory p e) = inl (ap (λ x. x.meant) e)
-
-    refuses_unbuilt : (setup : Setup) → IsFedSetup words source setup → is_unbuilt setup ≡ true → Means words source s → (s.meant ≡ 6) ⊎ (s ≡ alone 3 not_built_text)
-    refuses_unbuilt setup fed un (usage p same e) = unplain fed.fed.plain p
-    refuses_unbuilt setup fed un (read_fault p r e) = absurd (fed.fed.calm r)
-    refuses_unbuilt setup fed un (too_long p g e) = absurd (not_short source.old.bytes source.new.bytes fed.bytes fed.fed.told fed.fed.short g)
-    refuses_unbuilt setup fed un (refused b f p w r e) = absurd (not_refused fed.bytes b setup f fed.fed.told w r fed.is)
-    refuses_unbuilt setup fed un (not_built b t p w i u e) = inr e
-    refuses_unbuilt setup fed un (ran b t p w i u run well) =
-        absurd (let clash : true ≡ false = sym un ∙ ap is_unbuilt (sym (same_setup fed.bytes b setup t fed.fed.told w i fed.is)) ∙ u in cc)
-    refuses_unbuilt setup fed un (no_memory p e) = inl (ap (λ x. x.meant) e)
+    refuses_fault bytes fault holds fed is (ran b t p w i run) = absurd (not_setup bytes b t fault fed.told w i is)
+    refuses_fault bytes fault holds fed is (checked b t p w i e) = absurd (not_setup bytes b t fault fed.told w i is)
+    refuses_fault bytes fault holds fed is (summed n p same sum) = unlike is_fed holds (ap is_fed p)
+    refuses_fault bytes fault holds fed is (printed n p same e) = unlike is_fed holds (ap is_fed p)
+    refuses_fault bytes fault holds fed is (no_memory some same e) = inl (ap (λ x. x.meant) e)
 
     -- more bytes than the limit aren't a whole input
     not_whole : (bytes b : List ℕ) → source.old.bytes ≡ Some bytes → input_limit < length bytes → IsWhole source b → ⊥
     not_whole bytes b told long w =
         let same = given_told source.old.bytes source.new.bytes bytes b told w.all in let fits = subst (λ l. length l ≤ input_limit) same w.within in omega (arith, long, fits)
 
-    refuses_long : (bytes : List ℕ) → is_plain words ≡ true → source.old.bytes ≡ Some bytes → input_limit < length bytes → ¬ Rose source.old.faults source.new.faults
+    refuses_long : (bytes : List ℕ) → is_fed (asked_by words) ≡ true → source.old.bytes ≡ Some bytes → input_limit < length bytes → ¬ Rose source.old.faults source.new.faults
         → Means words source s → (s.meant ≡ 6) ⊎ (s ≡ alone 3 too_long_text)
-    refuses_long bytes plain told long calm (usage p same e) = unplain plain p
-    refuses_long bytes plain told long calm (read_fault p r e) = absurd (calm r)
-    refuses_long bytes plain told long calm (too_long p g e) = inr e
-    refuses_long bytes plain told long calm (refused b f p w r e) = absurd (not_whole bytes b told long w)
-    refuses_long bytes plain told long calm (not_built b t p w i u e) = absurd (not_whole bytes b told long w)
-    refuses_long bytes plain told long calm (ran b t p w i u run well) = absurd (not_whole bytes b told long w)
-    refuses_long bytes plain told long calm (no_memory p e) = inl (ap (λ x. x.meant) e)
+    refuses_long bytes holds told long calm (usage p same e) = unlike is_served (served_if_fed (asked_by words) holds) p
+    refuses_long bytes holds told long calm (read_fault p r e) = absurd (calm r)
+    refuses_long bytes holds told long calm (too_long p g e) = inr e
+    refuses_long bytes holds told long calm (refused b f p w r e) = absurd (not_whole bytes b told long w)
+    refuses_long bytes holds told long calm (ran b t p w i run) = absurd (not_whole bytes b told long w)
+    refuses_long bytes holds told long calm (checked b t p w i e) = absurd (not_whole bytes b told long w)
+    refuses_long bytes holds told long calm (summed n p same sum) = unlike is_fed holds (ap is_fed p)
+    refuses_long bytes holds told long calm (printed n p same e) = unlike is_fed holds (ap is_fed p)
+    refuses_long bytes holds told long calm (no_memory some same e) = inl (ap (λ x. x.meant) e)
 
-    -- a setup that is built runs
-    runs_built : (setup : Setup) → IsFedSetup words source setup → is_unbuilt setup ≡ false → Means words source s → (IsRunOf setup s × HasNotFailed s.end) ⊎ (s.meant ≡ 6)
-    runs_built setup fed built (usage p same e) = unplain fed.fed.plain p
-    runs_built setup fed built (read_fault p r e) = absurd (fed.fed.calm r)
-    runs_built setup fed built (too_long p g e) = absurd (not_short source.old.bytes source.new.bytes fed.bytes fed.fed.told fed.fed.short g)
-    runs_built setup fed built (refused b f p w r e) = absurd (not_refused fed.bytes b setup f fed.fed.told w r fed.is)
-    runs_built setup fed built (not_built b t p w i u e) =
-        absurd (let clash : true ≡ false = sym u ∙ ap is_unbuilt (same_setup fed.bytes b setup t fed.fed.told w i fed.is) ∙ built in cc)
-    runs_built setup fed built (ran b t p w i u run well) = inl (subst (λ x. IsRunOf x s) (same_setup fed.bytes b setup t fed.fed.told w i fed.is) run, well)
-    runs_built setup fed built (no_memory p e) = inr (ap (λ x. x.meant) e)
+    -- a setup runs
+    runs_fed : (setup : Setup) → Asks words Plain → FeedsSetup source setup → Means words source s → RunsTo setup s ⊎ (s.meant ≡ 6)
+    runs_fed setup asks fed (usage p same e) = unlike is_served (ap is_served asks) p
+    runs_fed setup asks fed (read_fault p r e) = absurd (fed.fed.calm r)
+    runs_fed setup asks fed (too_long p g e) = absurd (not_short source.old.bytes source.new.bytes fed.bytes fed.fed.told fed.fed.short g)
+    runs_fed setup asks fed (refused b f p w r e) = absurd (not_refused fed.bytes b setup f fed.fed.told w r fed.is)
+    runs_fed setup asks fed (ran b t p w i run) = inl (subst (λ x. RunsTo x s) (same_setup fed.bytes b setup t fed.fed.told w i fed.is) run)
+    runs_fed setup asks fed (checked b t p w i e) = unlike is_running (ap is_running asks) (ap is_running p)
+    runs_fed setup asks fed (summed n p same sum) = unlike is_fed (ap is_fed asks) (ap is_fed p)
+    runs_fed setup asks fed (printed n p same e) = unlike is_fed (ap is_fed asks) (ap is_fed p)
+    runs_fed setup asks fed (no_memory some same e) = inr (ap (λ x. x.meant) e)
 
-    wrong_words : Means words source s → (s.meant ≡ 2) ↔ (is_plain words ≡ false)
-    wrong_words (usage p same e) = (λ m. p, λ q. ap (λ x. x.meant) e)
-    wrong_words (read_fault p r e) = (λ m. absurd (other_status s 4 2 _ e m (λ no. cc)), λ q. unplain p q)
-    wrong_words (too_long p g e) = (λ m. absurd (other_status s 3 2 _ e m (λ no. cc)), λ q. unplain p q)
-    wrong_words (refused b f p w r e) = (λ m. absurd (other_status s 3 2 _ e m (λ no. cc)), λ q. unplain p q)
-    wrong_words (not_built b t p w i u e) = (λ m. absurd (other_status s 3 2 _ e m (λ no. cc)), λ q. unplain p q)
-    wrong_words (ran b t p w i u run well) = (λ m. absurd (let low = low_status run.ended in let is = run.meant_is in omega (arith, low, is, m)), λ q. unplain p q)
-    wrong_words (no_memory p e) = (λ m. absurd (other_status s 6 2 _ e m (λ no. cc)), λ q. unplain p q)
+    -- a setup that is only read is counted
+    counts : (setup : Setup) → Asks words Check → FeedsSetup source setup → Means words source s → (s.meant ≡ 6) ⊎ (s ≡ alone 0 (checked_text setup))
+    counts setup asks fed (usage p same e) = unlike is_served (ap is_served asks) p
+    counts setup asks fed (read_fault p r e) = absurd (fed.fed.calm r)
+    counts setup asks fed (too_long p g e) = absurd (not_short source.old.bytes source.new.bytes fed.bytes fed.fed.told fed.fed.short g)
+    counts setup asks fed (refused b f p w r e) = absurd (not_refused fed.bytes b setup f fed.fed.told w r fed.is)
+    counts setup asks fed (ran b t p w i run) = unlike is_running (ap is_running p) (ap is_running asks)
+    counts setup asks fed (checked b t p w i e) = inr (e ∙ ap (λ x. alone 0 (checked_text x)) (same_setup fed.bytes b setup t fed.fed.told w i fed.is))
+    counts setup asks fed (summed n p same sum) = unlike is_fed (ap is_fed asks) (ap is_fed p)
+    counts setup asks fed (printed n p same e) = unlike is_fed (ap is_fed asks) (ap is_fed p)
+    counts setup asks fed (no_memory some same e) = inl (ap (λ x. x.meant) e)
 
-    untouched : is_plain words ≡ false → Means words source s → source.new ≡ source.old
-    untouched q (usage p same e) = same
-    untouched q (read_fault p r e) = unplain p q
-    untouched q (too_long p g e) = unplain p q
-    untouched q (refused b f p w r e) = unplain p q
-    untouched q (not_built b t p w i u e) = unplain p q
-    untouched q (ran b t p w i u run well) = unplain p q
-    untouched q (no_memory p e) = unplain p q
+    one_number : (n m : ℕ) (print : Bool) → Asks words (Generate n print) → Asks words (Generate m print) → n ≡ m
+    one_number n m print a b = let same : Some (Generate n print) ≡ Some (Generate m print) = sym a ∙ b in cc
+
+    -- a generated setup is printed
+    prints : (number : ℕ) → Asks words (Generate number true) → Means words source s → (s.meant ≡ 6) ⊎ (s ≡ alone 0 (setup_text (generated number)))
+    prints number asks (usage p same e) = unlike is_served (ap is_served asks) p
+    prints number asks (read_fault p r e) = unlike is_fed p (ap is_fed asks)
+    prints number asks (too_long p g e) = unlike is_fed p (ap is_fed asks)
+    prints number asks (refused b f p w r e) = unlike is_fed p (ap is_fed asks)
+    prints number asks (ran b t p w i run) = unlike is_fed (ap is_fed p) (ap is_fed asks)
+    prints number asks (checked b t p w i e) = unlike is_fed (ap is_fed p) (ap is_fed asks)
+    prints number asks (summed n p same sum) = unlike is_running (ap is_running p) (ap is_running asks)
+    prints number asks (printed n p same e) = inr (e ∙ ap (λ x. alone 0 (setup_text (generated x))) (one_number n number true p asks))
+    prints number asks (no_memory some same e) = inl (ap (λ x. x.meant) e)
+
+    -- or runs, in short
+    sums : (number : ℕ) → Asks words (Generate number false) → Means words source s → (s.meant ≡ 6) ⊎ IsSummaryOf number s
+    sums number asks (usage p same e) = unlike is_served (ap is_served asks) p
+    sums number asks (read_fault p r e) = unlike is_fed p (ap is_fed asks)
+    sums number asks (too_long p g e) = unlike is_fed p (ap is_fed asks)
+    sums number asks (refused b f p w r e) = unlike is_fed p (ap is_fed asks)
+    sums number asks (ran b t p w i run) = unlike is_fed (ap is_fed p) (ap is_fed asks)
+    sums number asks (checked b t p w i e) = unlike is_fed (ap is_fed p) (ap is_fed asks)
+    sums number asks (summed n p same sum) = inr (subst (λ x. IsSummaryOf x s) (one_number n number false p asks) sum)
+    sums number asks (printed n p same e) = unlike is_running (ap is_running asks) (ap is_running p)
+    sums number asks (no_memory some same e) = inl (ap (λ x. x.meant) e)
+
+    only_wrong : s.meant ≡ 2 → Means words source s → is_served (asked_by words) ≡ false
+    only_wrong m (usage p same e) = p
+    only_wrong m (read_fault p r e) = absurd (other_status s 4 2 _ e m (λ fails. cc))
+    only_wrong m (too_long p g e) = absurd (other_status s 3 2 _ e m (λ fails. cc))
+    only_wrong m (refused b f p w r e) = absurd (other_status s 3 2 _ e m (λ fails. cc))
+    only_wrong m (ran b t p w i run) = absurd (let low = runs_low t s run in omega (arith, low, m))
+    only_wrong m (checked b t p w i e) = absurd (other_status s 0 2 _ e m (λ fails. cc))
+    only_wrong m (summed n p same sum) = absurd (let low = summed_low n s sum in omega (arith, low, m))
+    only_wrong m (printed n p same e) = absurd (other_status s 0 2 _ e m (λ fails. cc))
+    only_wrong m (no_memory some same e) = absurd (other_status s 6 2 _ e m (λ fails. cc))
+
+    always_wrong : is_served (asked_by words) ≡ false → Means words source s → (s.meant ≡ 2) ⊎ (s.meant ≡ 6)
+    always_wrong fails (usage p same e) = inl (ap (λ x. x.meant) e)
+    always_wrong fails (read_fault p r e) = unlike is_served (served_if_fed (asked_by words) p) fails
+    always_wrong fails (too_long p g e) = unlike is_served (served_if_fed (asked_by words) p) fails
+    always_wrong fails (refused b f p w r e) = unlike is_served (served_if_fed (asked_by words) p) fails
+    always_wrong fails (ran b t p w i run) = unlike is_served (ap is_served p) fails
+    always_wrong fails (checked b t p w i e) = unlike is_served (ap is_served p) fails
+    always_wrong fails (summed n p same sum) = unlike is_served (ap is_served p) fails
+    always_wrong fails (printed n p same e) = unlike is_served (ap is_served p) fails
+    always_wrong fails (no_memory some same e) = inr (ap (λ x. x.meant) e)
+
+    without_words : words ≡ [] → Means words source s → s.meant ≡ 2
+    without_words none (usage p same e) = ap (λ x. x.meant) e
+    without_words none (read_fault p r e) = absurd (some_words (served_if_fed (asked_by words) p) none)
+    without_words none (too_long p g e) = absurd (some_words (served_if_fed (asked_by words) p) none)
+    without_words none (refused b f p w r e) = absurd (some_words (served_if_fed (asked_by words) p) none)
+    without_words none (ran b t p w i run) = absurd (some_words (ap is_served p) none)
+    without_words none (checked b t p w i e) = absurd (some_words (ap is_served p) none)
+    without_words none (summed n p same sum) = absurd (some_words (ap is_served p) none)
+    without_words none (printed n p same e) = absurd (some_words (ap is_served p) none)
+    without_words none (no_memory some same e) = absurd (some none)
+
+    untouched : is_fed (asked_by words) ≡ false → Means words source s → source.new ≡ source.old
+    untouched fails (usage p same e) = same
+    untouched fails (read_fault p r e) = unlike is_fed p fails
+    untouched fails (too_long p g e) = unlike is_fed p fails
+    untouched fails (refused b f p w r e) = unlike is_fed p fails
+    untouched fails (ran b t p w i run) = unlike is_fed (ap is_fed p) fails
+    untouched fails (checked b t p w i e) = unlike is_fed (ap is_fed p) fails
+    untouched fails (summed n p same sum) = same
+    untouched fails (printed n p same e) = same
+    untouched fails (no_memory some same e) = same fails
 
     fault_rose : s.meant ≡ 4 → Means words source s → Rose source.old.faults source.new.faults
-    fault_rose m (usage p same e) = absurd (other_status s 2 4 _ e m (λ no. cc))
+    fault_rose m (usage p same e) = absurd (other_status s 2 4 _ e m (λ fails. cc))
     fault_rose m (read_fault p r e) = r
-    fault_rose m (too_long p g e) = absurd (other_status s 3 4 _ e m (λ no. cc))
-    fault_rose m (refused b f p w r e) = absurd (other_status s 3 4 _ e m (λ no. cc))
-    fault_rose m (not_built b t p w i u e) = absurd (other_status s 3 4 _ e m (λ no. cc))
-    fault_rose m (ran b t p w i u run well) = absurd (let low = low_status run.ended in let is = run.meant_is in omega (arith, low, is, m))
-    fault_rose m (no_memory p e) = absurd (other_status s 6 4 _ e m (λ no. cc))
+    fault_rose m (too_long p g e) = absurd (other_status s 3 4 _ e m (λ fails. cc))
+    fault_rose m (refused b f p w r e) = absurd (other_status s 3 4 _ e m (λ fails. cc))
+    fault_rose m (ran b t p w i run) = absurd (let low = runs_low t s run in omega (arith, low, m))
+    fault_rose m (checked b t p w i e) = absurd (other_status s 0 4 _ e m (λ fails. cc))
+    fault_rose m (summed n p same sum) = absurd (let low = summed_low n s sum in omega (arith, low, m))
+    fault_rose m (printed n p same e) = absurd (other_status s 0 4 _ e m (λ fails. cc))
+    fault_rose m (no_memory some same e) = absurd (other_status s 6 4 _ e m (λ fails. cc))
 
-    beside : (n : ℕ) (t : List ℕ) → s ≡ alone n t → (s.order ≡ []) × (s.end ≡ None)
-    beside n t e = (ap (λ x. x.order) e, ap (λ x. x.end) e)
+    beside : (n : ℕ) (t : List ℕ) → s ≡ alone n t → (s.order ≡ []) × (s.end ≡ None) × (s.trace ≡ None)
+    beside n t e = (ap (λ x. x.order) e, ap (λ x. x.end) e, ap (λ x. x.trace) e)
 
-    nothing : 1 < s.meant → Means words source s → (s.order ≡ []) × (s.end ≡ None)
-    nothing high (usage p same e) = beside 2 _ e
-    nothing high (read_fault p r e) = beside 4 _ e
-    nothing high (too_long p g e) = beside 3 _ e
-    nothing high (refused b f p w r e) = beside 3 _ e
-    nothing high (not_built b t p w i u e) = beside 3 _ e
-    nothing high (ran b t p w i u run well) = absurd (let low = low_status run.ended in let is = run.meant_is in omega (arith, low, is, high))
-    nothing high (no_memory p e) = beside 6 _ e
-
-    no_end : (n : ℕ) (t : List ℕ) → s ≡ alone n t → HasNotFailed s.end
-    no_end n t e ended is = let clash : None ≡ Some ended = sym (ap (λ x. x.end) e) ∙ is in cc
-
-    unfailed : Means words source s → HasNotFailed s.end
-    unfailed (usage p same e) = no_end 2 _ e
-    unfailed (read_fault p r e) = no_end 4 _ e
-    unfailed (too_long p g e) = no_end 3 _ e
-    unfailed (refused b f p w r e) = no_end 3 _ e
-    unfailed (not_built b t p w i u e) = no_end 3 _ e
-    unfailed (ran b t p w i u run well) = well
-    unfailed (no_memory p e) = no_end 6 _ e
+    nothing : (is_running (asked_by words) ≡ false) ⊎ (1 < s.meant) → Means words source s → (s.order ≡ []) × (s.end ≡ None) × (s.trace ≡ None)
+    nothing idle (usage p same e) = beside 2 _ e
+    nothing idle (read_fault p r e) = beside 4 _ e
+    nothing idle (too_long p g e) = beside 3 _ e
+    nothing idle (refused b f p w r e) = beside 3 _ e
+    nothing idle (ran b t p w i run) =
+        ⊎_elim (λ fails. unlike is_running (ap is_running p) fails) (λ high. absurd (let low = runs_low t s run in omega (arith, low, high))) idle
+    nothing idle (checked b t p w i e) = beside 0 _ e
+    nothing idle (summed n p same sum) =
+        ⊎_elim (λ fails. unlike is_running (ap is_running p) fails) (λ high. absurd (let low = summed_low n s sum in omega (arith, low, high))) idle
+    nothing idle (printed n p same e) = beside 0 _ e
+    nothing idle (no_memory some same e) = beside 6 _ e
 
     -- an end comes with a status of at most 1
     ended_low : (ended : End) → s.end ≡ Some ended → Means words source s → s.meant ≤ 1
-    ended_low ended is (ran b t p w i u run well) = let low = low_status run.ended in let at = run.meant_is in omega (arith, low, at)
     ended_low ended is (usage p same e) = absurd (let clash : None ≡ Some ended = sym (beside 2 _ e).1 ∙ is in cc)
     ended_low ended is (read_fault p r e) = absurd (let clash : None ≡ Some ended = sym (beside 4 _ e).1 ∙ is in cc)
     ended_low ended is (too_long p g e) = absurd (let clash : None ≡ Some ended = sym (beside 3 _ e).1 ∙ is in cc)
     ended_low ended is (refused b f p w r e) = absurd (let clash : None ≡ Some ended = sym (beside 3 _ e).1 ∙ is in cc)
-    ended_low ended is (not_built b t p w i u e) = absurd (let clash : None ≡ Some ended = sym (beside 3 _ e).1 ∙ is in cc)
-    ended_low ended is (no_memory p e) = absurd (let clash : None ≡ Some ended = sym (beside 6 _ e).1 ∙ is in cc)
+    ended_low ended is (ran b t p w i run) = runs_low t s run
+    ended_low ended is (checked b t p w i e) = absurd (let clash : None ≡ Some ended = sym (beside 0 _ e).1 ∙ is in cc)
+    ended_low ended is (summed n p same sum) = summed_low n s sum
+    ended_low ended is (printed n p same e) = absurd (let clash : None ≡ Some ended = sym (beside 0 _ e).1 ∙ is in cc)
+    ended_low ended is (no_memory some same e) = absurd (let clash : None ≡ Some ended = sym (beside 6 _ e).1 ∙ is in cc)
 
 status_sent : (sink : Seen) (text : List ℕ) (o : Outcome) → ¬ Rose sink.old.faults sink.new.faults → IsSent sink text o → o.status ≡ o.meant
 status_sent sink text o calm (whole w s n) = s
@@ -226,26 +362,39 @@ module _ (words : List (String Global)) (source sink : Seen) (o : Outcome) (is :
   abbrev says : Saying
   says = said_in o is.text
 
-  refused_by : (t : List ℕ) → (o.meant ≡ 6) ⊎ (said_in o is.text ≡ alone 3 t) → Refuses sink t o
-  refused_by t h = ⊎_elim (λ m. inl m) (λ e. inr (ap (λ (x : Saying). x.meant) e, subst (λ x. IsSent sink x o) (ap (λ (x : Saying). x.text) e) is.sent)) h
+  said_by : (n : ℕ) (t : List ℕ) → (o.meant ≡ 6) ⊎ (said_in o is.text ≡ alone n t) → Says n sink t o
+  said_by n t h = ⊎_elim (λ m. inl m) (λ e. inr (ap (λ (x : Saying). x.meant) e, subst (λ x. IsSent sink x o) (ap (λ (x : Saying). x.text) e) is.sent)) h
 
   pub headline : Headline words source sink o
-  headline setup asked low = (is.text, runs words source says setup asked low is.means, is.sent)
+  headline setup to low = (is.text, (runs_placed setup says to.needs (runs words source says setup to.asked low is.means)).run, is.sent)
 
-  pub wrong : (o.meant ≡ 2) ↔ (is_plain words ≡ false)
-  wrong = wrong_words words source says is.means
+  pub runs_cluster : RunsCluster words source sink o
+  runs_cluster setup asked needs low = (is.text, runs_clustered setup says needs (runs words source says setup asked low is.means), is.sent)
 
-  pub leaves : is_plain words ≡ false → source.new ≡ source.old
-  leaves q = untouched words source says q is.means
+  pub tells_usage : TellsUsage words o
+  tells_usage = record {
+    only = λ m. only_wrong words source says m is.means;
+    always = λ fails. always_wrong words source says fails is.means;
+    no_words = λ none. without_words words source says none is.means;
+  }
+
+  pub leaves : is_fed (asked_by words) ≡ false → source.new ≡ source.old
+  leaves fails = untouched words source says fails is.means
 
   pub refuses_faults : RefusesFaults words source sink o
-  refuses_faults bytes fault fed r = refused_by (refusal_text fault) (refuses_fault words source says bytes fault fed r is.means)
-
-  pub refuses_unbuilt_ones : RefusesUnbuilt words source sink o
-  refuses_unbuilt_ones setup fed un = refused_by not_built_text (refuses_unbuilt words source says setup fed un is.means)
+  refuses_faults bytes fault holds fed r = said_by 3 (refusal_text fault) (refuses_fault words source says bytes fault holds fed r is.means)
 
   pub refuses_long_ones : RefusesLong words source sink o
-  refuses_long_ones bytes plain told long calm = refused_by too_long_text (refuses_long words source says bytes plain told long calm is.means)
+  refuses_long_ones bytes holds told long calm = said_by 3 too_long_text (refuses_long words source says bytes holds told long calm is.means)
+
+  pub checks : Checks words source sink o
+  checks setup asks fed = said_by 0 (checked_text setup) (counts words source says setup asks fed is.means)
+
+  pub prints_ones : Prints words sink o
+  prints_ones number asks = said_by 0 (setup_text (generated number)) (prints words source says number asks is.means)
+
+  pub sums_ones : Sums words sink o
+  sums_ones number asks = ⊎_elim (λ m. inl m) (λ sum. inr (is.text, sum, is.sent)) (sums words source says number asks is.means)
 
   pub read_failed : o.meant ≡ 4 → Rose source.old.faults source.new.faults
   read_failed m = fault_rose words source says m is.means
@@ -257,26 +406,24 @@ module _ (words : List (String Global)) (source sink : Seen) (o : Outcome) (is :
       by (whole w s n) = absurd (apart s)
       by (cut r l w s) = (s, r)
 
-  pub runs_nothing : RunsNothing o
-  runs_nothing high = nothing words source says high is.means
+  pub runs_nothing : RunsNothing words o
+  runs_nothing idle = nothing words source says idle is.means
 
   pub completes : Completes words source o
-  completes setup fed built =
-      ⊎_elim (λ r. inl (let low = low_status r.0.ended in let at = r.0.meant_is in omega (arith, low, at))) (λ m. inr m) (runs_built words source says setup fed built is.means)
+  completes setup asks fed = ⊎_elim (λ r. inl (runs_low setup says r)) (λ m. inr m) (runs_fed words source says setup asks fed is.means)
 
   pub commits : Commits words source sink o
-  commits setup fed built free none unlicensed calm =
+  commits setup asks fed needs free none unlicensed calm =
       let status = status_sent sink is.text o calm is.sent in
       ⊎_elim
-      (λ r. inl (status ∙ r.0.meant_is ∙ ap status_of (commits_else setup o.order r.0.ended r.0.lawful free none (r.1 r.0.ended r.0.end_is))))
+      (λ r. let p = runs_placed setup says needs r in
+      inl (status ∙ p.run.meant_is ∙ ap status_of (commits_else setup o.order p.run.ended p.run.lawful free none (p.well p.run.ended p.run.end_is))))
       (λ m. inr (inl (status ∙ m)))
-      (runs_built words source says setup fed built is.means)
+      (runs_fed words source says setup asks fed is.means)
 
   pub runs_one_mark : RunsOneMark words source o
-  runs_one_mark setup ended asked none at well =
-      let run = runs words source says setup asked (ended_low words source says ended at is.means) is.means in
-      let same : run.ended ≡ ended = let both : Some run.ended ≡ Some ended = sym run.end_is ∙ at in cc in
-      one_mark_without_clients setup o.order ended none (subst (λ x. IsLawful setup o.order x) same run.lawful) well
-
-  pub not_failed : HasNotFailed o.end
-  not_failed = unfailed words source says is.means
+  runs_one_mark setup ended to at =
+      let p = runs_placed setup says to.needs (runs words source says setup to.asked (ended_low words source says ended at is.means) is.means) in
+      let same : p.run.ended ≡ ended = let both : Some p.run.ended ≡ Some ended = sym p.run.end_is ∙ at in cc in
+      let well = p.well ended at in
+      (well, one_mark_without_clients setup o.order ended (without_clients setup to.needs) (subst (λ x. IsLawful setup o.order x) same p.run.lawful) well)

@@ -11,7 +11,7 @@ use Rattle.resh_bag.specs.Bag.{Document}
 use Rattle.resh_model.specs.Marks.{bag_of, IsRun}
 use Rattle.resh_report.specs.Lines.{names_of}
 use Rattle.resh_model.proofs.orders.OneMark.{one_lawful, one_page, one_well}
-use Rattle.resh_run.specs.Top.{is_unbuilt}
+use Rattle.resh_run.specs.Top.{needs_cluster}
 use Rattle.resh_run.specs.Said.{IsPage}
 
 no_clients : (clients : List Client) (b : Bool) → (nat_lt 0 (length clients) || b) ≡ false → clients ≡ []
@@ -22,13 +22,15 @@ no_clients (client ∷ more) b e = absurd (by (nat_lt 0 (length (client ∷ more
     by true is e = let clash : true ≡ false = e in cc
     by false is e = let clash : false ≡ true = is in cc
 
-pub says_page : (setup : Setup) (order : List Turn) (end : End) (holdings : List (List Document)) (page : List ℕ) → is_unbuilt setup ≡ false
+pub without_clients : (setup : Setup) → needs_cluster setup ≡ false → setup.clients ≡ []
+without_clients setup fails = no_clients setup.clients _ fails
+
+pub says_page : (setup : Setup) (order : List Turn) (end : End) (holdings : List (List Document)) (page : List ℕ) → needs_cluster setup ≡ false
     → IsRun setup.old_map setup.new_map (bag_of setup) order end holdings
     → page ≡ page_text setup.shards (names_of setup.clients) order end [] holdings → IsPage setup order end page
-says_page setup order end holdings page built run is =
-    let none = no_clients setup.clients _ built in
+says_page setup order end holdings page fails run is =
+    let none = without_clients setup fails in
     record {
-      built = built;
       lawful = one_lawful setup none order end holdings run;
       well = one_well setup none order end holdings run;
       text = is ∙ one_page setup none order end holdings run;

@@ -1,7 +1,7 @@
 //! The fixed texts. They need no memory.
 
 ghost use Rattle.std.specs.Prelude.{◌≡◌};
-ghost use Rattle.resh_run.specs.Top.{usage_text, too_long_text, not_built_text, read_fault_text, no_memory_text};
+ghost use Rattle.resh_run.specs.Top.{usage_text, too_long_text, read_fault_text, no_memory_text};
 
 pub(crate) fn usage() -> &'static [u8]
     ensures { result.now ≡ usage_text }
@@ -13,12 +13,6 @@ pub(crate) fn too_long() -> &'static [u8]
     ensures { result.now ≡ too_long_text }
 {
     b"refused: too long, limit 67108864\n"
-}
-
-pub(crate) fn not_built() -> &'static [u8]
-    ensures { result.now ≡ not_built_text }
-{
-    b"refused: not built yet\n"
 }
 
 pub(crate) fn read_fault() -> &'static [u8]

@@ -1,0 +1,13 @@
+use Rattle.std.proofs.Common.{sym, subst}
+use Rattle.resh_setup.specs.Validity.{IsValid}
+use Rattle.resh_run.proofs.GeneratedSetups.{generated_valid}
+use Rattle.resh_run.proofs.Runs.{generated_on}
+use Rattle.resh_run.proofs.cluster.run_generated.Goals as goal
+
+pub start-requires : goal.start-requires
+start-requires c = subst IsValid (sym c.in_ok-setup.ensures) (generated_valid c.args.number)
+
+pub returns : goal.returns
+returns c =
+    generated_on c.args.number _ _ _ _ _ c.in_ok-written.written _ _ c.in_ok-setup.ensures c.in_ok-core.ensures c.in_ok-lucks.ensures c.in_ok-finish.ensures.swept
+    c.in_ok-finish.ensures.over c.in_ok-written.ensures c.into_parts-order.ensures.order

@@ -1,0 +1,5 @@
+use Rattle.resh_run.proofs.Runs.{summing}
+use Rattle.resh_run.proofs.decision.sum_says.Goals as goal
+
+pub returns-in-Ok : goal.returns-in-Ok
+returns-in-Ok c = summing c.args.number c.in-Ok.ran c.in-Ok.ensures
