@@ -1,5 +1,5 @@
 mod Cutting
 mod ItemLists
-mod Standing
+pub mod Standing
 mod StandsOn
 mod Testing

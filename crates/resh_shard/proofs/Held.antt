@@ -36,7 +36,7 @@ tied a b e = by (compare_of a b) refl e
     by Greater f h = cc
 
 -- what is found in a list
-find_there : {X : Type 0} (p : X → Bool) (xs : List X) (x : X) → find p xs ≡ Some x → Contains xs x × (p x ≡ true)
+pub find_there : {X : Type 0} (p : X → Bool) (xs : List X) (x : X) → find p xs ≡ Some x → Contains xs x × (p x ≡ true)
 find_there p [] x e = cc
 find_there {X} p (y ∷ ys) x e = by (λ h. find_there p ys x h) (p y) refl e
   where
@@ -44,7 +44,7 @@ find_there {X} p (y ∷ ys) x e = by (λ h. find_there p ys x h) (p y) refl e
     by onward true f h = let same : y ≡ x = cc in (subst (Contains (y ∷ ys)) same (first_there y ys), subst (λ z. p z ≡ true) same f)
     by onward false f h = let w = onward h in (later_there y ys x w.0, w.1)
 
-find_all : {X : Type 0} (p : X → Bool) (xs : List X) (x : X) → Contains xs x → p x ≡ true → is_some (find p xs) ≡ true
+pub find_all : {X : Type 0} (p : X → Bool) (xs : List X) (x : X) → Contains xs x → p x ≡ true → is_some (find p xs) ≡ true
 find_all p [] x (n, within, is) t = absurd (omega (arith, within))
 find_all p (y ∷ ys) x there t = by (λ later. find_all p ys x later t) (p y) refl (first_or_later y ys x there)
   where

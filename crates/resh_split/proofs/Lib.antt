@@ -1,4 +1,4 @@
 mod Sums
 mod Counting
 mod Dealing
-mod Standing
+pub mod Standing

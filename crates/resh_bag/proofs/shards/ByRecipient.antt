@@ -56,7 +56,7 @@ module _ (old_map new_map : Chunks) (bag : Bag) (placed : IsPlaced old_map bag) 
       }
 
 -- where `_id`s rise, two elements of one `_id` are one
-each_of : {X : Type 0} (P : X → Type 0) (xs : List X) (x : X) → AllByRecursion P xs → Contains xs x → P x
+pub each_of : {X : Type 0} (P : X → Type 0) (xs : List X) (x : X) → AllByRecursion P xs → Contains xs x → P x
 each_of P [] x all (n, within, is) = absurd (omega arith)
 each_of P (y ∷ ys) x all there = ⊎_elim (λ same. subst P same all.0) (λ later. each_of P ys x all.1 later) (first_or_later y ys x there)
 
