@@ -1,0 +1,11 @@
+pub mod Blocking
+pub mod Donating
+pub mod Ending
+pub mod Fed
+pub mod Installing
+pub mod Marking
+pub mod Owning
+pub mod Preparing
+pub mod Pruned
+pub mod Releasing
+pub mod Rows
