@@ -1,0 +1,14 @@
+pub mod Aborting
+pub mod Asked
+pub mod Clocks
+pub mod Covering
+pub mod Doing
+pub mod Holding
+pub mod Owned
+pub mod Reaching
+pub mod Refusing
+pub mod Replying
+pub mod Rows
+pub mod Serving
+pub mod Turning
+pub mod Writing
