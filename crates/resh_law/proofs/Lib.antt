@@ -1,0 +1,11 @@
+pub mod Clocks
+pub mod Marking
+pub mod Counting
+pub mod Telling
+pub mod Advancing
+pub mod Failing
+pub mod Clients
+pub mod Moments
+pub mod Schedules
+pub mod EndingHoldings
+pub mod Ending
