@@ -1,0 +1,10 @@
+pub mod Places
+pub mod Storing
+pub mod Pieces
+pub mod Counting
+pub mod Linking
+pub mod Telling
+pub mod Asking
+pub mod Rows
+pub mod Opening
+pub mod Feeding
