@@ -4,5 +4,6 @@ pub mod ListLaws
 pub mod OpeningLaws
 pub mod PlanLaws
 pub mod RowLaws
+pub mod SoundLaws
 pub mod StepLaws
 pub mod TrialLaws

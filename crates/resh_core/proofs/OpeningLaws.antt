@@ -16,6 +16,11 @@ use Rattle.resh_cells.specs.declared.cluster.LinkCell.{LinkCell}
 use Rattle.resh_cells.specs.declared.cluster.ShardCell.{ShardCell}
 use Rattle.resh_events.specs.Opening as table
 use Rattle.resh_keeping.proofs.Kept.{opens}
+use Rattle.resh_ending.proofs.Shaping.{opens as opens_shaped}
+use Rattle.resh_rounds.proofs.Running.{opens_running}
+use Rattle.resh_invariant.specs.Sources.{told_clones}
+use Rattle.resh_invariant.proofs.Opening.{opens_kept}
+use Rattle.resh_leading.specs.Laws.{OpensLeading}
 use Rattle.resh_core.specs.Cores.{IsSound}
 use Rattle.resh_core.specs.Openings.{opening_lane_of}
 
@@ -70,7 +75,14 @@ opened setup shards c ss ls ks ts k many a b d e f g =
     ∙ ap (λ (x : List ClientCell). made (table.opening setup).control (table.opening setup).shards (table.opening setup).lanes (table.opening setup).links x k) f
     ∙ ap (λ (x : Clocks). made (table.opening setup).control (table.opening setup).shards (table.opening setup).lanes (table.opening setup).links (table.opening setup).clients x) g
 
--- it is sound
-pub sound_opened : (setup : Setup) (cluster : Cluster) → IsValid setup → cluster ≡ table.opening setup → IsSound setup cluster
-sound_opened setup cluster valid is =
-    record { valid = valid; of = subst (λ (c : Cluster). IsClusterOf setup c) (sym is) (opens setup) }
+-- it is sound, with no turn made
+pub sound_opened : (setup : Setup) (cluster : Cluster) → OpensLeading → IsValid setup → cluster ≡ table.opening setup
+    → IsSound setup [] cluster
+sound_opened setup cluster leads valid is = subst (λ (c : Cluster). IsSound setup [] c) (sym is) (record {
+  valid = valid;
+  of = opens setup;
+  shaped = opens_shaped setup;
+  running = opens_running setup;
+  leads = leads setup valid;
+  turns = (tt, (told_clones (table.opening setup), opens_kept setup valid));
+})

@@ -22,8 +22,7 @@ use Rattle.resh_events.specs.Steps.{Line, first_moment, idles, lines_of, makes, 
 use Rattle.resh_events.specs.Table.{may}
 use Rattle.resh_events.specs.Turns.{order_of, turns_of}
 use Rattle.resh_cells.specs.Belonging.{IsClusterOf}
-use Rattle.resh_keeping.proofs.Kept.{clocks_keep, keeps}
-use Rattle.resh_core.specs.Cores.{CoreOf, HasStepped, IsSound, run_of}
+use Rattle.resh_core.specs.Cores.{CoreOf, HasStepped, run_of}
 use Rattle.resh_core.specs.Making.{IsMade, IsPaid, asked, core_of, may_follow, stamp_at}
 use Rattle.resh_core.specs.declared.making.Acted.{Acted}
 use Rattle.resh_core.specs.declared.making.State.{State}
@@ -283,13 +282,3 @@ step_three setup old mid late new before between behind2 later e e2 e3 a b d lin
 
 -- a step, by how many events it makes
 pub ruleset steps = (idled, step_one, step_two, step_three)
-
--- an event leaves a core sound
-pub sound_made : (setup : Setup) (old new : State) (before later : Lucks) (e : Event) (followed : ℕ) (a : Acted)
-    → IsMade setup old before e followed new later a → IsSound setup old.cluster → IsSound setup new.cluster
-sound_made setup old new before later e followed a made sound = record {
-  valid = sound.valid;
-  of = subst (λ (c : Cluster). IsClusterOf setup c) (sym made.acted.cluster)
-      (clocks_keep setup a.stamp.time (holds setup old.cluster e a.met) _
-      (keeps setup a.stamp old.cluster e (piece_for old.cluster e) a.met sound.of));
-}

@@ -1,5 +1,5 @@
 -- Trials that were made one after another, put together to rounds and a sweep.
-use Rattle.std.proofs.Common.{◌≡◌, ℕ, ◌+◌, Bool, true, false, List, [], ◌∷◌, ◌++◌, Option, refl, sym, ◌∙◌, ap, subst, append_assoc}
+use Rattle.std.proofs.Common.{◌≡◌, ◌<◌, ℕ, ◌+◌, Bool, true, false, List, [], ◌∷◌, ◌++◌, Option, refl, sym, ◌∙◌, ap, subst, append_assoc}
 use Rattle.std.specs.List.{flat_map, range_with_len}
 use Rattle.resh_value.specs.declared.value.ShardId.{ShardId}
 use Rattle.resh_setup.specs.declared.event.Event.{Event}
@@ -10,9 +10,14 @@ use Rattle.resh_setup.specs.declared.turn.Turn.{Turn}
 use Rattle.resh_events.specs.Lucks.{Lucks}
 use Rattle.resh_events.specs.Runs.{Moment, Run, after, after_all}
 use Rattle.resh_events.specs.Schedules.{trace_of}
-use Rattle.resh_events.specs.Steps.{Line}
+use Rattle.resh_setup.specs.declared.seen.Seen.TheVariants.{Idle}
+use Rattle.resh_events.specs.Steps.{Line, idles, may_step}
 use Rattle.resh_events.specs.Sweep.{AreApplies, IsSweep, Makes, Trial, Tries, TriesAll, all_of, applying, goes_on, is_over, next_reading, reading, round, step}
 use Rattle.resh_events.specs.Turns.{order_of, turns_of}
+use Rattle.resh_model.specs.Orders.{opening, walked}
+use Rattle.resh_ending.specs.Applies.{applies_left}
+use Rattle.resh_ending.proofs.Applying.{applies_end}
+use Rattle.resh_sweeps.specs.Laws.{RoundsEnd, rounds_left}
 use Rattle.resh_core.specs.Cores.{CoreOf, HasMade, HasStepped, HasSwept, IsSound, run_of}
 use Rattle.resh_core.specs.Making.{core_of}
 use Rattle.resh_core.specs.Sweeping.{HasApplied, HasRounds, HasTried, SomeApplies, SomeRounds}
@@ -83,7 +88,7 @@ tried_both setup old mid new before between later ts us h k = record {
   sound = k.sound;
 }
 
-pub tried_none : (setup : Setup) (state : State) (lucks : Lucks) → IsSound setup state.cluster
+pub tried_none : (setup : Setup) (state : State) (lucks : Lucks) → IsSound setup state.order state.cluster
     → HasTried setup state lucks [] state lucks
 unfolding after_all order_of
 tried_none setup state lucks sound = record {
@@ -95,7 +100,7 @@ tried_none setup state lucks sound = record {
 
 -- a trial that is one step
 pub tried_step : (setup : Setup) (old new : State) (before later : Lucks) (e : Event) (lines : List Line)
-    → HasStepped (core_of setup old) before e lines (core_of setup new) later → IsSound setup new.cluster
+    → HasStepped (core_of setup old) before e lines (core_of setup new) later → IsSound setup new.order new.cluster
     → HasTried setup old before (step e ∷ []) new later
 tried_step setup old new before later e lines h sound = record {
   moments = h.moments;
@@ -104,19 +109,33 @@ tried_step setup old new before later e lines h sound = record {
   sound = sound;
 }
 
-pub tried_reading : (setup : Setup) (old new : State) (before later : Lucks) (r d : ShardId) (e : Event) (lines : List Line)
-    → e ≡ next_reading setup old.cluster r d
-    → HasStepped (core_of setup old) before e lines (core_of setup new) later → IsSound setup new.cluster
+-- a trial that is idle
+pub tried_idle : (setup : Setup) (state : State) (lucks : Lucks) (e : Event) → IsSound setup state.order state.cluster
+    → may_step setup state.cluster e ≡ false → HasTried setup state lucks (step e ∷ []) state lucks
+unfolding after_all order_of
+tried_idle setup state lucks e sound idle = record {
+  moments = [];
+  tries = ([], [], refl, ((e, Idle) ∷ [], idles idle refl refl), refl);
+  made = record { setup = refl; trace = sym (append_none state.trace); order = sym (append_none state.order); run = refl };
+  sound = sound;
+}
+
+-- a link's reading is a step of what it reads next
+pub tried_reading : (setup : Setup) (old new : State) (before later : Lucks) (r d : ShardId) (e : Event)
+    → e ≡ next_reading setup old.cluster r d → HasTried setup old before (step e ∷ []) new later
     → HasTried setup old before (reading r d ∷ []) new later
-tried_reading setup old new before later r d e lines is h sound =
-    let k : HasStepped (core_of setup old) before (next_reading setup old.cluster r d) lines (core_of setup new) later =
-    subst (λ (x : Event). HasStepped (core_of setup old) before x lines (core_of setup new) later) is h in
-    record {
-      moments = k.moments;
-      tries = (k.moments, [], sym (append_none k.moments), (lines, k.step), refl);
-      made = k.made;
-      sound = sound;
-    }
+tried_reading setup old new before later r d e is h = record {
+  moments = h.moments;
+  tries = (
+    h.tries.0,
+    h.tries.1,
+    h.tries.2,
+    subst (λ (x : Event). Makes setup (run_of (core_of setup old) before) x h.tries.0) is h.tries.3,
+    h.tries.4,
+  );
+  made = h.made;
+  sound = h.sound;
+}
 
 pub tried_more : (setup : Setup) (f : ℕ → List Trial) (n : ℕ) (old mid new : State) (before between later : Lucks)
     → HasTried setup old before (flat_map f (range_with_len 0 n)) mid between → HasTried setup mid between (f n) new later
@@ -184,7 +203,7 @@ rounds_end setup run (y ∷ ys) (goes, makes, more) g = (
       (subst (λ (x : Run). is_over setup x.cluster ≡ true) (after_more setup run y ys) g),
 )
 
-pub applied_none : (setup : Setup) (r d : ShardId) (l : ℕ) (state : State) (lucks : Lucks) → IsSound setup state.cluster
+pub applied_none : (setup : Setup) (r d : ShardId) (l : ℕ) (state : State) (lucks : Lucks) → IsSound setup state.order state.cluster
     → HasApplied setup r d l state lucks state lucks
 unfolding after_all order_of
 applied_none setup r d l state lucks sound = record {
@@ -196,7 +215,7 @@ applied_none setup r d l state lucks sound = record {
 
 pub applied_more : (setup : Setup) (r d : ShardId) (l : ℕ) (old mid new : State) (before between later : Lucks) (lines : List Line)
     → HasApplied setup r d l old before mid between → goes_on setup mid.cluster r d l ≡ true
-    → HasStepped (core_of setup mid) between (Apply r d l) lines (core_of setup new) later → IsSound setup new.cluster
+    → HasStepped (core_of setup mid) between (Apply r d l) lines (core_of setup new) later → IsSound setup new.order new.cluster
     → HasApplied setup r d l old before new later
 applied_more setup r d l old mid new before between later lines h g k sound =
     let run : Run = run_of (core_of setup old) before in
@@ -211,6 +230,16 @@ applied_more setup r d l old mid new before between later lines h g k sound =
           (made_both setup old mid new before between later (all_of h.applies) k.moments h.made k.made);
       sound = sound;
     }
+
+-- what is left of a lane's applies is less after each
+pub apply_falls : (setup : Setup) (r d : ShardId) (l : ℕ) (mid new : State) (between later : Lucks) (lines : List Line)
+    → IsSound setup mid.order mid.cluster → goes_on setup mid.cluster r d l ≡ true
+    → HasStepped (core_of setup mid) between (Apply r d l) lines (core_of setup new) later
+    → applies_left setup new.cluster later r d l < applies_left setup mid.cluster between r d l
+apply_falls setup r d l mid new between later lines sound g k =
+    let run : Run = run_of (core_of setup mid) between in
+    subst (λ (x : Run). applies_left setup x.cluster x.lucks r d l < applies_left setup mid.cluster between r d l) (sym k.made.run)
+    (applies_end setup run r d l k.moments sound.shaped refl g (lines, k.step))
 
 pub applied_end : (setup : Setup) (r d : ShardId) (l : ℕ) (old new : State) (before later : Lucks)
     → HasApplied setup r d l old before new later → goes_on setup new.cluster r d l ≡ false
@@ -235,7 +264,7 @@ applied_end setup r d l old new before later h g =
       sound = h.sound;
     }
 
-pub rounds_none : (setup : Setup) (state : State) (lucks : Lucks) → IsSound setup state.cluster
+pub rounds_none : (setup : Setup) (state : State) (lucks : Lucks) → IsSound setup state.order state.cluster
     → HasRounds setup state lucks state lucks
 unfolding after_all order_of
 rounds_none setup state lucks sound = record {
@@ -275,3 +304,19 @@ round_end setup old new before later h g = record {
   );
   made = h.made;
 }
+
+-- what is left of a sweep's rounds is less after each
+pub round_falls : (setup : Setup) (mid new : State) (between later : Lucks) → RoundsEnd → IsSound setup mid.order mid.cluster
+    → is_over setup mid.cluster ≡ false → HasTried setup mid between (round setup) new later
+    → rounds_left setup (run_of (core_of setup new) later) < rounds_left setup (run_of (core_of setup mid) between)
+round_falls setup mid new between later ends sound goes h =
+    let run : Run = run_of (core_of setup mid) between in
+    subst (λ (r : Run). rounds_left setup r < rounds_left setup run) (sym h.made.run)
+    (ends setup run h.moments sound.valid (record {
+      state = walked setup (opening setup) mid.order;
+      kept = sound.turns.1;
+      leads = sound.leads;
+      running = sound.running;
+      shaped = sound.shaped;
+      paid = refl;
+    }) goes h.tries)

@@ -20,6 +20,11 @@ use Rattle.resh_events.specs.Schedules.{trace_of}
 use Rattle.resh_events.specs.Steps.{IsStep, Line}
 use Rattle.resh_events.specs.Sweep.{Sweeps}
 use Rattle.resh_events.specs.Turns.{order_of}
+use Rattle.resh_model.specs.Orders as turns
+use Rattle.resh_ending.specs.Shapes.{IsShaped}
+use Rattle.resh_rounds.specs.Serving.{IsRunning}
+use Rattle.resh_client_rows.specs.Laws.{KeepsTurns}
+use Rattle.resh_leading.specs.Leading.{LeadsOn}
 use Rattle.resh_core.specs.declared.lucks.Lucks.{Lucks as LucksOf}
 
 -- its setup and its cluster, the events made so far, and their turns
@@ -38,10 +43,15 @@ core_code =
     (λ c. (c.setup, (c.cluster, (c.trace, c.order))))
     (λ p. record { setup = p.0; cluster = p.1.0; trace = p.1.1.0; order = p.1.1.1 }) (λ _. refl)
 
--- a valid setup, and a cluster of it
-pub record IsSound (setup : Setup) (cluster : Cluster) : Type 0 where
+-- a valid setup, and a cluster of it to which these turns led: they may come one after another, the invariant is kept
+-- with them, and what a sweep needs stands
+pub record IsSound (setup : Setup) (order : List Turn) (cluster : Cluster) : Type 0 where
   pub valid : IsValid setup
   pub of : IsClusterOf setup cluster
+  pub shaped : IsShaped setup cluster
+  pub running : IsRunning setup cluster
+  pub leads : LeadsOn setup cluster
+  pub turns : KeepsTurns setup (turns.opening setup) order cluster
 
 -- what is told of all lucks
 abbrev pub tolds : {L : Type 0} → (L → Told) → LucksOf L → Lucks

@@ -31,7 +31,7 @@ pub record HasTried (setup : Setup) (old : State) (before : Lucks) (trials : Lis
   pub moments : List Moment
   pub tries : TriesAll setup (run_of (core_of setup old) before) trials moments
   pub made : HasMade (core_of setup old) before moments (core_of setup new) later
-  pub sound : IsSound setup new.cluster
+  pub sound : IsSound setup new.order new.cluster
 
 -- the trials of the first clients, shards, donors, recipients and lanes
 abbrev pub client_trials : ℕ → List Trial
@@ -75,10 +75,10 @@ pub record HasApplied (setup : Setup) (r d : ShardId) (l : ℕ) (old : State) (b
   pub applies : List (List Moment)
   pub some : SomeApplies setup r d l (run_of (core_of setup old) before) applies
   pub made : HasMade (core_of setup old) before (all_of applies) (core_of setup new) later
-  pub sound : IsSound setup new.cluster
+  pub sound : IsSound setup new.order new.cluster
 
 pub record HasRounds (setup : Setup) (old : State) (before : Lucks) (new : State) (later : Lucks) : Type 0 where
   pub rounds : List (List Moment)
   pub some : SomeRounds setup (run_of (core_of setup old) before) rounds
   pub made : HasMade (core_of setup old) before (all_of rounds) (core_of setup new) later
-  pub sound : IsSound setup new.cluster
+  pub sound : IsSound setup new.order new.cluster

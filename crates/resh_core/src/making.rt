@@ -3,7 +3,8 @@
 ghost use Rattle.std.specs.Prelude.{◌≡◌, ◌∷◌, ◌++◌, [], true, false, IfOk, OnOk};
 ghost use Rattle.resh_events.specs.Luck as luck;
 ghost use Rattle.resh_events.specs.Steps as steps;
-ghost use Rattle.resh_core.specs.Cores.{IsSound, tolds};
+ghost use Rattle.resh_cells.specs.Belonging.{IsClusterOf};
+ghost use Rattle.resh_core.specs.Cores.{tolds};
 ghost use Rattle.resh_core.specs.Making.{HasActed, HasChanged, HasKept, IsGiven, IsMade, asks_of, asked, counted_by};
 ghost use Rattle.resh_core.specs.Making.{is_client, is_counted, made_of, mark_by, time_of, turns_shown};
 
@@ -46,7 +47,7 @@ pub(crate) fn make<L: Luck>(
     event: &Event,
     lucks: &mut Lucks<L>,
 ) -> Result<Acted, NoMemory>
-    requires sound { IsSound setup.now state.old.cluster }
+    requires of { IsClusterOf setup.now state.old.cluster }
     requires may { steps.may_step setup.now state.old.cluster event.now ≡ true }
     ensures { IfOk result (IsMade setup.now state.old (tolds L.told lucks.old) event.now 0 state.new
         (tolds L.told lucks.new)) }
@@ -59,7 +60,7 @@ pub(crate) fn make<L: Luck>(
 
 /// A client's event, which asks no luck.
 fn make_client(state: &mut State, setup: &Setup, client: u32) -> Result<Acted, NoMemory>
-    requires sound { IsSound setup.now state.old.cluster }
+    requires of { IsClusterOf setup.now state.old.cluster }
     requires may { steps.may_step setup.now state.old.cluster (Event.Client client) ≡ true }
     ensures acted { IfOk result (HasActed setup.now state.old.cluster (Event.Client client) 0 Met.Row
         state.new.cluster) }
@@ -131,7 +132,7 @@ fn act_client(
     setup: &Setup,
     client: u32,
 ) -> Result<Acted, NoMemory>
-    requires sound { IsSound setup.now cluster.old }
+    requires of { IsClusterOf setup.now cluster.old }
     requires may { steps.may_step setup.now cluster.old (Event.Client client) ≡ true }
     ensures { IfOk result (HasActed setup.now cluster.old (Event.Client client) 0 Met.Row cluster.new) }
 {

@@ -4,6 +4,9 @@ ghost use Rattle.resh_setup.specs.Validity.{IsValid};
 ghost use Rattle.resh_cells.specs.declared.cluster.ClientCell.{ClientCell};
 ghost use Rattle.resh_cells.specs.declared.cluster.ShardCell.{ShardCell};
 ghost use Rattle.resh_events.specs.Sweep as sweep;
+ghost use Rattle.resh_model.specs.Orders as turns;
+ghost use Rattle.resh_client_rows.specs.Laws.{KeepsTurns};
+ghost use Rattle.resh_law.specs.Laws.{IsWalkOf};
 ghost use Rattle.resh_core.specs.Cores.{HasStepped, HasSwept, opening_core, tolds};
 
 use crate::lucks::Lucks;
@@ -13,6 +16,7 @@ use crate::stepping::step;
 use crate::sweeping::{is_over, sweep};
 use resh_command::Replies;
 use resh_coord::End;
+use resh_leading::leads_on;
 use resh_luck::Luck;
 use resh_setup::{Event, SeenList, Setup, Trace, Turns};
 use resh_shard::Shard;
@@ -39,7 +43,7 @@ impl<'a> Model for Core<'a> {
 
     ghost view = { λ c. core_of c.setup.now c.state };
 
-    ghost invariant = { λ c. Stands c.setup.now c.given_up c.state.cluster };
+    ghost invariant = { λ c. Stands c.setup.now c.given_up c.state.order c.state.cluster };
 }
 
 impl<'a> Core<'a> {
@@ -49,6 +53,7 @@ impl<'a> Core<'a> {
         requires { IsValid setup.now }
         ensures { IfOk result (λ core. core ≡ opening_core setup.now) }
     {
+        leads_on();
         let state = State {
             alloc,
             cluster: opening(alloc, setup)?,
@@ -63,15 +68,18 @@ impl<'a> Core<'a> {
     }
 
     /// A step of this event: the events that were made, each with what is seen of it; the event with `Idle` exactly
-    /// where it may not be made. Want of memory gives the core up: every later call answers it too. It comes for a
-    /// failure, which is no step.
+    /// where it may not be made. The turns made so far may come one after another, and with them the invariant of every
+    /// schedule is kept. Want of memory gives the core up: every later call answers it too. It comes for a failure,
+    /// which is no step.
     pub fn step<L: Luck>(
         &mut self,
         event: &Event,
         lucks: &mut Lucks<L>,
     ) -> Result<SeenList, NoMemory>
-        ensures { IfOk result (λ lines. HasStepped self.old (tolds L.told lucks.old) event.now lines self.new
+        ensures stepped { IfOk result (λ lines. HasStepped self.old (tolds L.told lucks.old) event.now lines self.new
             (tolds L.told lucks.new)) }
+        ensures turns { OnOk result (KeepsTurns self.new.setup (turns.opening self.new.setup) self.new.order
+            self.new.cluster) }
     {
         if self.given_up {
             return Err(NoMemory);
@@ -86,12 +94,15 @@ impl<'a> Core<'a> {
         }
     }
 
-    /// The sweep: rounds of steps until the coordinator is done and no client has a command left. Want of memory gives
-    /// the core up.
+    /// The sweep: rounds of steps until the coordinator is done and no client has a command left. Then the order is
+    /// lawful, its end is what was decided, and each client was answered and each shard holds what the order gives. Want
+    /// of memory gives the core up.
+    #[tactic(auto, using(resh_law::proofs::Ending::walks))]
     pub fn finish<L: Luck>(&mut self, lucks: &mut Lucks<L>) -> Result<(), NoMemory>
         ensures swept { IfOk result (λ done. HasSwept self.old (tolds L.told lucks.old) self.new
             (tolds L.told lucks.new)) }
         ensures over { OnOk result (sweep.is_over self.new.setup self.new.cluster ≡ true) }
+        ensures walk { OnOk result (IsWalkOf self.new.setup self.new.cluster self.new.order) }
     {
         if self.given_up {
             return Err(NoMemory);

@@ -1,6 +1,7 @@
 //! A step: nothing where it is idle, else its event and at once all that follows it.
 
 ghost use Rattle.std.specs.Prelude.{◌≡◌, ◌∷◌, ◌++◌, [], true, IfOk, OnOk};
+ghost use Rattle.resh_cells.specs.Belonging.{IsClusterOf};
 ghost use Rattle.resh_events.specs.Schedules as schedules;
 ghost use Rattle.resh_events.specs.Steps as steps;
 ghost use Rattle.resh_setup.specs.declared.trace.Met.TheVariants.{Row};
@@ -10,23 +11,42 @@ ghost use Rattle.resh_core.specs.Making.{IsPaid, core_of, may_follow};
 use crate::lucks::Lucks;
 use crate::making::{Acted, State, make, make_row};
 use crate::rows::may_step;
+use resh_law::schedule_laws;
+use resh_leading::leads_on;
 use resh_luck::Luck;
 use resh_setup::{Event, Met, Seen, SeenList, Setup};
 use resh_value::{NoMemory, Sequence};
 use std::alloc::Global;
 
-/// Makes a step. Want of memory comes for a failure, which is no step.
-#[tactic(auto, using(crate::proofs::StepLaws::steps))]
+/// Makes a step, which leaves the core sound. Want of memory comes for a failure, which is no step.
 pub(crate) fn step<L: Luck>(
     state: &mut State,
     setup: &Setup,
     event: &Event,
     lucks: &mut Lucks<L>,
 ) -> Result<SeenList, NoMemory>
-    requires sound { IsSound setup.now state.old.cluster }
+    requires sound { IsSound setup.now state.old.order state.old.cluster }
     ensures stepped { IfOk result (λ lines. HasStepped (core_of setup.now state.old) (tolds L.told lucks.old) event.now
         lines (core_of setup.now state.new) (tolds L.told lucks.new)) }
-    ensures sound { OnOk result (IsSound setup.now state.new.cluster) }
+    ensures sound { OnOk result (IsSound setup.now state.new.order state.new.cluster) }
+{
+    schedule_laws();
+    leads_on();
+    let lines = make_step(state, setup, event, lucks)?;
+    Ok(lines)
+}
+
+/// The events of a step, with their lines.
+#[tactic(auto, using(crate::proofs::StepLaws::steps))]
+fn make_step<L: Luck>(
+    state: &mut State,
+    setup: &Setup,
+    event: &Event,
+    lucks: &mut Lucks<L>,
+) -> Result<SeenList, NoMemory>
+    requires of { IsClusterOf setup.now state.old.cluster }
+    ensures { IfOk result (λ lines. HasStepped (core_of setup.now state.old) (tolds L.told lucks.old) event.now
+        lines (core_of setup.now state.new) (tolds L.told lucks.new)) }
 {
     let mut lines = Sequence::new(state.alloc);
     if !may_step(&state.cluster, setup, event) {

@@ -20,27 +20,26 @@ use resh_cells::Cluster;
 use resh_coord::Phase;
 use resh_luck::Luck;
 use resh_setup::{Event, Setup};
+use resh_sweeps::rounds_end;
 use resh_value::{NoMemory, ShardId};
 
-/// Makes rounds until all is done. Want of memory comes too after 2^64 - 1 rounds.
+/// Makes rounds until all is done. Each leaves less to do.
 pub(crate) fn sweep<L: Luck>(
     state: &mut State,
     setup: &Setup,
     lucks: &mut Lucks<L>,
 ) -> Result<(), NoMemory>
-    requires sound { IsSound setup.now state.old.cluster }
+    requires sound { IsSound setup.now state.old.order state.old.cluster }
     ensures swept { OnOk result (HasSwept (core_of setup.now state.old) (tolds L.told lucks.old)
         (core_of setup.now state.new) (tolds L.told lucks.new)) }
-    ensures sound { OnOk result (IsSound setup.now state.new.cluster) }
+    ensures sound { OnOk result (IsSound setup.now state.new.order state.new.cluster) }
     ensures over { OnOk result (table.is_over setup.now state.new.cluster ≡ true) }
 {
-    for _ in 0..u64::MAX {
-        if is_over(&state.cluster, setup) {
-            return Ok(());
-        }
+    rounds_end();
+    'rounds: while !is_over(&state.cluster, setup) {
         make_round(state, setup, lucks)?;
     }
-    Err(NoMemory)
+    Ok(())
 }
 
 /// Whether the coordinator is done and no client has a command left.
@@ -69,7 +68,7 @@ fn make_round<L: Luck>(
     setup: &Setup,
     lucks: &mut Lucks<L>,
 ) -> Result<(), NoMemory>
-    requires sound { IsSound setup.now state.old.cluster }
+    requires sound { IsSound setup.now state.old.order state.old.cluster }
     ensures { OnOk result (HasTried setup.now state.old (tolds L.told lucks.old) (table.round setup.now) state.new
         (tolds L.told lucks.new)) }
 {
@@ -82,16 +81,20 @@ fn make_round<L: Luck>(
     Ok(())
 }
 
+/// A step, whose lines nobody reads; nothing where it is idle, as most steps of a round are.
 fn try_step<L: Luck>(
     state: &mut State,
     setup: &Setup,
     event: &Event,
     lucks: &mut Lucks<L>,
 ) -> Result<(), NoMemory>
-    requires sound { IsSound setup.now state.old.cluster }
+    requires sound { IsSound setup.now state.old.order state.old.cluster }
     ensures { OnOk result (HasTried setup.now state.old (tolds L.told lucks.old) (table.step event.now ∷ []) state.new
         (tolds L.told lucks.new)) }
 {
+    if !may_step(&state.cluster, setup, event) {
+        return Ok(());
+    }
     let _lines = step(state, setup, event, lucks)?;
     Ok(())
 }
@@ -101,7 +104,7 @@ fn try_clients<L: Luck>(
     setup: &Setup,
     lucks: &mut Lucks<L>,
 ) -> Result<(), NoMemory>
-    requires sound { IsSound setup.now state.old.cluster }
+    requires sound { IsSound setup.now state.old.order state.old.cluster }
     ensures { OnOk result (HasTried setup.now state.old (tolds L.told lucks.old)
         (client_trials (length setup.now.clients)) state.new (tolds L.told lucks.new)) }
 {
@@ -116,7 +119,7 @@ fn try_tells<L: Luck>(
     setup: &Setup,
     lucks: &mut Lucks<L>,
 ) -> Result<(), NoMemory>
-    requires sound { IsSound setup.now state.old.cluster }
+    requires sound { IsSound setup.now state.old.order state.old.cluster }
     ensures { OnOk result (HasTried setup.now state.old (tolds L.told lucks.old)
         (tell_trials (length setup.now.shards)) state.new (tolds L.told lucks.new)) }
 {
@@ -134,7 +137,7 @@ fn try_reports<L: Luck>(
     setup: &Setup,
     lucks: &mut Lucks<L>,
 ) -> Result<(), NoMemory>
-    requires sound { IsSound setup.now state.old.cluster }
+    requires sound { IsSound setup.now state.old.order state.old.cluster }
     ensures { OnOk result (HasTried setup.now state.old (tolds L.told lucks.old)
         (report_trials (length setup.now.shards)) state.new (tolds L.told lucks.new)) }
 {
@@ -152,7 +155,7 @@ fn try_recipients<L: Luck>(
     setup: &Setup,
     lucks: &mut Lucks<L>,
 ) -> Result<(), NoMemory>
-    requires sound { IsSound setup.now state.old.cluster }
+    requires sound { IsSound setup.now state.old.order state.old.cluster }
     ensures { OnOk result (HasTried setup.now state.old (tolds L.told lucks.old)
         (recipient_trials setup.now (length setup.now.shards)) state.new (tolds L.told lucks.new)) }
 {
@@ -168,7 +171,7 @@ fn try_links<L: Luck>(
     recipient: ShardId,
     lucks: &mut Lucks<L>,
 ) -> Result<(), NoMemory>
-    requires sound { IsSound setup.now state.old.cluster }
+    requires sound { IsSound setup.now state.old.order state.old.cluster }
     ensures { OnOk result (HasTried setup.now state.old (tolds L.told lucks.old)
         (link_trials setup.now recipient (length setup.now.shards)) state.new (tolds L.told lucks.new)) }
 {
@@ -186,7 +189,7 @@ fn try_link<L: Luck>(
     donor: ShardId,
     lucks: &mut Lucks<L>,
 ) -> Result<(), NoMemory>
-    requires sound { IsSound setup.now state.old.cluster }
+    requires sound { IsSound setup.now state.old.order state.old.cluster }
     ensures { OnOk result (HasTried setup.now state.old (tolds L.told lucks.old)
         (table.link_round setup.now recipient donor) state.new (tolds L.told lucks.new)) }
 {
@@ -205,12 +208,12 @@ fn try_reading<L: Luck>(
     donor: ShardId,
     lucks: &mut Lucks<L>,
 ) -> Result<(), NoMemory>
-    requires sound { IsSound setup.now state.old.cluster }
+    requires sound { IsSound setup.now state.old.order state.old.cluster }
     ensures { OnOk result (HasTried setup.now state.old (tolds L.told lucks.old)
         (table.reading recipient donor ∷ []) state.new (tolds L.told lucks.new)) }
 {
     let event = next_reading(&state.cluster, recipient, donor);
-    let _lines = step(state, setup, &event, lucks)?;
+    try_step(state, setup, &event, lucks)?;
     Ok(())
 }
 
@@ -256,7 +259,7 @@ fn try_lanes<L: Luck>(
     donor: ShardId,
     lucks: &mut Lucks<L>,
 ) -> Result<(), NoMemory>
-    requires sound { IsSound setup.now state.old.cluster }
+    requires sound { IsSound setup.now state.old.order state.old.cluster }
     ensures { OnOk result (HasTried setup.now state.old (tolds L.told lucks.old)
         (lane_trials recipient donor setup.now.lanes) state.new (tolds L.told lucks.new)) }
 {
@@ -266,8 +269,7 @@ fn try_lanes<L: Luck>(
     Ok(())
 }
 
-/// Applies one after another, as long as one isn't idle and the link hasn't failed. Want of memory comes too after
-/// 2^64 - 1 of them.
+/// Applies one after another, as long as one isn't idle and the link hasn't failed. Each leaves less to do.
 fn try_applies<L: Luck>(
     state: &mut State,
     setup: &Setup,
@@ -276,14 +278,11 @@ fn try_applies<L: Luck>(
     lane: u32,
     lucks: &mut Lucks<L>,
 ) -> Result<(), NoMemory>
-    requires sound { IsSound setup.now state.old.cluster }
+    requires sound { IsSound setup.now state.old.order state.old.cluster }
     ensures { OnOk result (HasTried setup.now state.old (tolds L.told lucks.old)
         (table.applying recipient donor lane ∷ []) state.new (tolds L.told lucks.new)) }
 {
-    for _ in 0..u64::MAX {
-        if !goes_on(&state.cluster, setup, recipient, donor, lane) {
-            return Ok(());
-        }
+    'applies: while goes_on(&state.cluster, setup, recipient, donor, lane) {
         let event = Event::Apply {
             recipient,
             donor,
@@ -291,7 +290,7 @@ fn try_applies<L: Luck>(
         };
         let _lines = step(state, setup, &event, lucks)?;
     }
-    Err(NoMemory)
+    Ok(())
 }
 
 /// Whether an apply isn't idle and its link hasn't failed.

@@ -1,17 +1,9 @@
-use Rattle.resh_core.proofs.StepLaws.{sound_made}
+use Rattle.resh_core.proofs.SoundLaws.{sound_stepped}
 use Rattle.resh_core.proofs.stepping.step.Goals as goal
 
-pub returns-in_default-clause-sound : goal.returns-in_default-clause-sound
-returns-in_default-clause-sound g c =
-    sound_made c.args.setup.now _ _ _ _ _ _ _ c.in_ok-first.ensures c.requires.sound
+pub returns-clause-sound : goal.returns-clause-sound
+returns-clause-sound g c =
+    sound_stepped c.schedule_laws.ensures.keeps c.leads_on.ensures.stays _ _ _ _ _ _ _ c.requires.sound c.in_ok-lines.ensures
 
-pub returns-in_default-follower-clause-sound : goal.returns-in_default-follower-clause-sound
-returns-in_default-follower-clause-sound g c =
-    sound_made c.args.setup.now _ _ _ _ _ _ _ c.in_ok-second.ensures.made
-    (sound_made c.args.setup.now _ _ _ _ _ _ _ c.in_ok-first.ensures c.requires.sound)
-
-pub returns-in-None-clause-sound : goal.returns-in-None-clause-sound
-returns-in-None-clause-sound g c =
-    sound_made c.args.setup.now _ _ _ _ _ _ _ c.in_ok-third.ensures.made
-    (sound_made c.args.setup.now _ _ _ _ _ _ _ c.in_ok-second.ensures.made
-    (sound_made c.args.setup.now _ _ _ _ _ _ _ c.in_ok-first.ensures c.requires.sound))
+pub make_step-requires : goal.make_step-requires
+make_step-requires g c = record { of = c.requires.sound.of }
