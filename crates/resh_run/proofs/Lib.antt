@@ -8,3 +8,4 @@ mod Steps
 mod Taken
 pub mod WordLemmas
 pub mod Licences
+mod Walks

@@ -1,5 +1,5 @@
 -- From what the code says to what is meant, and from an outcome to each promise.
-use Rattle.std.proofs.Common.{◌≡◌, ◌≢◌, ℕ, ◌+◌, ◌<◌, ◌≤◌, ◌⊎◌, ◌↔◌, inl, inr, ⊎_elim, Bool, true, false, List, [], length, Option, Some, None, String, refl, sym, ap, ◌∙◌, subst, arith}
+use Rattle.std.proofs.Common.{◌≡◌, ◌≢◌, ℕ, ◌+◌, ◌<◌, ◌≤◌, ◌⊎◌, inl, inr, ⊎_elim, Bool, true, false, List, [], length, Option, Some, None, String, refl, sym, ap, ◌∙◌, subst, arith}
 use Rattle.std.specs.declared.alloc.Global.{Global}
 use Rattle.resh_io.specs.Causes.{Rose}
 use Rattle.resh_io.specs.Reading.{GivesFirst}
@@ -11,7 +11,7 @@ use Rattle.resh_setup.specs.declared.fault.SetupFault.{SetupFault}
 use Rattle.resh_setup.specs.declared.fault.SetupFault.TheVariants as InSetup
 use Rattle.resh_setup.specs.declared.plan.Planned.{Planned}
 use Rattle.resh_setup.specs.declared.plan.Who.{Who}
-use Rattle.resh_model.specs.Licence.{HasLicence, crash_steps}
+use Rattle.resh_model.specs.Licence.{HasLicence, LicensesNone, crash_steps}
 use Rattle.resh_model.specs.MarkLaws.{is_failure}
 use Rattle.resh_model.specs.Orders.{IsLawful}
 use Rattle.resh_model.proofs.orders.MarkCauses.{commits_else, one_mark_without_clients}
@@ -21,11 +21,11 @@ use Rattle.resh_report.specs.Refusals.{refusal_text}
 use Rattle.resh_gen.specs.Generated.{generated}
 use Rattle.resh_gen.specs.SetupText.{setup_text}
 use Rattle.resh_run.specs.Answer.{said}
-use Rattle.resh_run.specs.Promises.{IsAskedFor, IsAskedToPlace, Feeds, FeedsSetup, Headline, RunsCluster, Says, TellsUsage, RefusesFaults, RefusesLong, Checks, Prints, Sums, Completes, Commits, RunsOneMark, RunsNothing, FailsToWrite}
+use Rattle.resh_run.specs.Promises.{IsAskedFor, Feeds, FeedsSetup, Headline, RunsCluster, RunsPlaced, Says, TellsUsage, RefusesFaults, RefusesLong, Checks, Prints, Sums, Completes, Commits, RunsOneMark, RunsNothing, FailsToWrite}
 use Rattle.resh_run.specs.Said.{IsSaid, wrong, wanting, ran as for_run, checked as for_check, numbered, BytesSay, CheckSays, FaultSays, FileSays, PrintSays, SumSays}
 use Rattle.resh_run.specs.Seen.{Seen}
-use Rattle.resh_run.specs.Top.{Saying, alone, said_in, IsRunOf, IsWhole, HasNotFailed, Means, usage, read_fault, too_long, refused, ran, no_memory, checked, summed, printed, IsClusterRunOf, IsPlacement, IsSummaryOf, RunsTo, placed, clustered, Asks, is_fed, is_running, is_served, IsSent, whole, cut, IsOutcome, input_limit, needs_cluster, status_of, too_long_text, usage_text}
-use Rattle.resh_run.specs.Words.{asked_by, asked_of}
+use Rattle.resh_run.specs.Top.{Saying, alone, said_in, IsRunOf, IsWhole, Means, usage, read_fault, too_long, refused, ran, no_memory, checked, summed, printed, IsClusterRunOf, IsPlacement, IsSummaryOf, RunsTo, placed, clustered, Asks, is_fed, is_running, is_served, IsSent, whole, cut, IsOutcome, input_limit, needs_cluster, status_of, too_long_text}
+use Rattle.resh_run.specs.Words.{asked_by}
 use Rattle.resh_run.specs.declared.words.Asked.{Asked}
 use Rattle.resh_run.specs.declared.words.Asked.TheVariants.{Plain, Check, Run, Generate}
 use Rattle.resh_run.specs.declared.decision.Purpose.{Purpose}
@@ -33,6 +33,9 @@ use Rattle.resh_run.specs.declared.decision.Purpose.TheVariants.{ToRun, ToCheck}
 use Rattle.resh_run.specs.declared.decision.Said.{Said}
 use Rattle.resh_run.specs.declared.decision.Said.TheVariants.{Usage, ReadFault, TooLong, NoMemory, Refused, Ran, Checked, Printed}
 use Rattle.resh_run.specs.declared.plain.Outcome.{Outcome}
+use Rattle.resh_core.specs.Cores.{opening_core}
+use Rattle.resh_events.specs.Lucks.{planned}
+use Rattle.resh_run.proofs.Steps.{stepped_many}
 use Rattle.resh_run.proofs.Outcomes.{one_setup, one_fault, not_both, given_told}
 use Rattle.resh_run.proofs.Pages.{without_clients}
 use Rattle.resh_run.proofs.WordLemmas.{none_asked}
@@ -66,6 +69,15 @@ licensed plan steps (Aborted (AskedFor client number)) well = tt
 licensed plan steps (Aborted (Failed node why)) well = cc
 licensed plan steps (Aborted Wanting) well = tt
 
+-- where no failure is licensed, none is the end
+well_or_wanting : (plan : List Planned) (steps : Who → ℕ) (end : End) → HasLicence plan steps end → LicensesNone plan steps
+    → (is_failure end ≡ false) ⊎ (end ≡ Aborted Wanting)
+well_or_wanting plan steps Committed leave none = inl refl
+well_or_wanting plan steps (Aborted (Clash shard id)) leave none = inl refl
+well_or_wanting plan steps (Aborted (AskedFor client number)) leave none = inl refl
+well_or_wanting plan steps (Aborted (Failed node why)) leave none = absurd (none node why leave)
+well_or_wanting plan steps (Aborted Wanting) leave none = inr refl
+
 low_status : (end : End) → status_of end ≤ 1
 low_status Committed = omega arith
 low_status (Aborted cause) = omega arith
@@ -97,6 +109,20 @@ runs_placed setup s fails (clustered needs c) = let clash : true ≡ false = sym
 runs_clustered : (setup : Setup) (s : Saying) → needs_cluster setup ≡ true → RunsTo setup s → IsClusterRunOf setup s
 runs_clustered setup s holds (placed p) = let clash : true ≡ false = sym holds ∙ p.needs in absurd (cc)
 runs_clustered setup s holds (clustered needs c) = c
+
+-- either is a run of the setup
+run_said : (setup : Setup) (s : Saying) → RunsTo setup s → IsRunOf setup s
+run_said setup s (placed p) = p.run
+run_said setup s (clustered needs c) = record {
+  ended = c.ended;
+  shown = c.shown;
+  each_step = stepped_many setup.steps (opening_core setup) (planned setup) c.shown c.run.middle c.run.told c.run.stepped;
+  lawful = c.lawful;
+  licensed = c.licensed;
+  end_is = c.ends.end_is;
+  meant_is = c.ends.meant_is;
+  page_is = c.page_of_order;
+}
 
 summed_low : (number : ℕ) (s : Saying) → IsSummaryOf number s → s.meant ≤ 1
 summed_low number s is = let low = low_status is.ended in let at = is.ends.meant_is in omega (arith, low, at)
@@ -366,7 +392,10 @@ module _ (words : List (String Global)) (source sink : Seen) (o : Outcome) (is :
   said_by n t h = ⊎_elim (λ m. inl m) (λ e. inr (ap (λ (x : Saying). x.meant) e, subst (λ x. IsSent sink x o) (ap (λ (x : Saying). x.text) e) is.sent)) h
 
   pub headline : Headline words source sink o
-  headline setup to low = (is.text, (runs_placed setup says to.needs (runs words source says setup to.asked low is.means)).run, is.sent)
+  headline setup asked low = (is.text, run_said setup says (runs words source says setup asked low is.means), is.sent)
+
+  pub runs_placing : RunsPlaced words source sink o
+  runs_placing setup to low = (is.text, runs_placed setup says to.needs (runs words source says setup to.asked low is.means), is.sent)
 
   pub runs_cluster : RunsCluster words source sink o
   runs_cluster setup asked needs low = (is.text, runs_clustered setup says needs (runs words source says setup asked low is.means), is.sent)
@@ -413,11 +442,14 @@ module _ (words : List (String Global)) (source sink : Seen) (o : Outcome) (is :
   completes setup asks fed = ⊎_elim (λ r. inl (runs_low setup says r)) (λ m. inr m) (runs_fed words source says setup asks fed is.means)
 
   pub commits : Commits words source sink o
-  commits setup asks fed needs free none unlicensed calm =
+  commits setup asks fed free none unlicensed calm =
       let status = status_sent sink is.text o calm is.sent in
       ⊎_elim
-      (λ r. let p = runs_placed setup says needs r in
-      inl (status ∙ p.run.meant_is ∙ ap status_of (commits_else setup o.order p.run.ended p.run.lawful free none (p.well p.run.ended p.run.end_is))))
+      (λ r. let p = run_said setup says r in
+      ⊎_elim
+      (λ well. inl (status ∙ p.meant_is ∙ ap status_of (commits_else setup o.order p.ended p.lawful free none well)))
+      (λ wants. inr (inr (p.end_is ∙ ap Some wants)))
+      (well_or_wanting setup.plan (crash_steps setup) p.ended p.licensed unlicensed))
       (λ m. inr (inl (status ∙ m)))
       (runs_fed words source says setup asks fed is.means)
 

@@ -1,6 +1,7 @@
 -- From what ran to what is said of it.
 use Rattle.std.proofs.Common.{◌≡◌, ℕ, true, false, List, [], ◌∷◌, Some, None, refl, sym, ap, subst, ◌∙◌}
 use Rattle.resh_coord.specs.declared.cause.End.{End}
+use Rattle.resh_setup.specs.Validity.{IsValid}
 use Rattle.resh_setup.specs.declared.event.Event.{Event}
 use Rattle.resh_setup.specs.declared.setup.Setup.{Setup}
 use Rattle.resh_setup.specs.declared.trace.Made.{Made}
@@ -12,28 +13,42 @@ use Rattle.resh_events.specs.Steps.{Line}
 use Rattle.resh_events.specs.Sweep.{is_over}
 use Rattle.resh_core.specs.Cores.{CoreOf, HasSwept, opening_core}
 use Rattle.resh_gen.specs.Generated.{generated}
-use Rattle.resh_run.specs.Cluster.{HasEnded, HasSummed, HaveAllStepped, HaveStepped, IsGeneratedRun, IsPaged, IsRunOnCluster, IsSummed}
+use Rattle.resh_law.specs.Laws.{IsWalkOf, SchedulesEnd}
+use Rattle.resh_run.specs.Cluster.{HasEnded, HasSummed, HaveAllStepped, HaveStepped, IsGeneratedRun, IsPaged, IsRunOnCluster, IsSummed, lines_from}
 use Rattle.resh_run.specs.Said.{IsPage}
-use Rattle.resh_run.specs.Top.{Saying, IsSummaryOf, RunsTo, placed, clustered, needs_cluster, status_of}
+use Rattle.resh_run.specs.Top.{IsSummaryOf, RunsTo, placed, clustered, needs_cluster, status_of}
 use Rattle.resh_run.specs.declared.cluster.ClusterRun.{ClusterRun}
 use Rattle.resh_run.specs.declared.cluster.Written.{Written}
-use Rattle.resh_run.proofs.Licences.{run_is_licensed}
+use Rattle.resh_run.proofs.GeneratedSetups.{generated_valid}
+use Rattle.resh_run.proofs.Licences.{run_is_licensed, run_makes_order, sweep_is_licensed, sweep_makes_order}
 use Rattle.resh_run.proofs.Meant.{licensed}
+use Rattle.resh_run.proofs.Pages.{without_steps}
+use Rattle.resh_run.proofs.Walks.{core_walks, order_lawful, order_page, order_sum}
 
 -- the page of a placement
 pub placement : (setup : Setup) (order : List Turn) (end : End) (text : List ℕ) → needs_cluster setup ≡ false → IsPage setup order end text
     → RunsTo setup (record { meant = status_of end; order = order; end = Some end; trace = None; text = text })
 placement setup order end text needs page = placed (record {
   needs = needs;
-  run = record { ended = end; lawful = page.lawful; licensed = licensed setup.plan (crash_steps setup) end page.well; end_is = refl; meant_is = refl; page_is = page.text };
+  run = record {
+    ended = end;
+    shown = [];
+    each_step = sym (without_steps setup needs);
+    lawful = page.lawful;
+    licensed = licensed setup.plan (crash_steps setup) end page.well;
+    end_is = refl;
+    meant_is = refl;
+    page_is = page.text;
+  };
   well = λ ended is. let same : end ≡ ended = cc in sym (ap is_failure same) ∙ page.well;
   trace_is = refl;
+  page_is = page.text;
 })
 
 -- a run on a cluster
-pub clustering : (setup : Setup) (ran : ClusterRun) → needs_cluster setup ≡ true → IsRunOnCluster setup ran
+pub clustering : (setup : Setup) (ran : ClusterRun) → needs_cluster setup ≡ true → IsValid setup → SchedulesEnd → IsRunOnCluster setup ran
     → RunsTo setup (record { meant = status_of ran.end; order = ran.order; end = Some ran.end; trace = Some ran.trace; text = ran.text.items })
-clustering setup ran needs is = clustered needs (record {
+clustering setup ran needs valid law is = clustered needs (record {
   shown = is.shown;
   last = is.last;
   ended = ran.end;
@@ -42,19 +57,31 @@ clustering setup ran needs is = clustered needs (record {
   licensed = run_is_licensed setup is.shown is.last ran.end is.run is.ended.end_is;
   trace_is = ap Some is.ended.trace_is;
   page_is = is.ended.text_is;
+  lawful = order_lawful setup is.last ran.order ran.end walk is.ended.order_is is.ended.end_is;
+  page_of_order = order_page setup is.last ran.order ran.end walk is.ended.order_is is.ended.end_is (lines_from setup 1 is.shown) ran.text.items is.ended.text_is;
 })
+  where
+    walk : IsWalkOf setup is.last.cluster is.last.order
+    walk = core_walks setup is.last is.run.later valid law (run_makes_order setup is.shown is.last is.run) is.run.over
 
 -- a generated setup's run
-pub summing : (number : ℕ) (ran : ClusterRun) → IsGeneratedRun number ran
+pub summing : (number : ℕ) (ran : ClusterRun) → SchedulesEnd → IsGeneratedRun number ran
     → IsSummaryOf number (record { meant = status_of ran.end; order = ran.order; end = Some ran.end; trace = None; text = ran.text.items })
-summing number ran is = record {
+summing number ran law is = record {
   last = is.last;
   ended = ran.end;
   run = is.run;
   ends = record { decided = is.summed.end_is; order_is = is.summed.order_is; end_is = refl; meant_is = refl };
   trace_is = refl;
   text_is = is.summed.text_is;
+  lawful = order_lawful (generated number) is.last ran.order ran.end walk is.summed.order_is is.summed.end_is;
+  licensed = sweep_is_licensed (generated number) is.last is.run.later ran.end is.run.swept is.summed.end_is;
+  text_of_order = order_sum (generated number) is.last ran.order ran.end walk is.summed.order_is is.summed.end_is number ran.text.items is.summed.text_is;
 }
+  where
+    walk : IsWalkOf (generated number) is.last.cluster is.last.order
+    walk = core_walks (generated number) is.last is.run.later (generated_valid number) law
+        (sweep_makes_order (generated number) is.last is.run.later is.run.swept) is.run.over
 
 -- a step keeps the setup
 kept : (events : List Event) (old : CoreOf) (before : Lucks) (shown : List (List Line)) (new : CoreOf) (later : Lucks) → HaveStepped events old before shown new later → new.setup ≡ old.setup

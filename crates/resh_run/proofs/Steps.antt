@@ -1,5 +1,5 @@
 -- Steps one after another.
-use Rattle.std.proofs.Common.{◌≡◌, ℕ, suc, ◌+◌, ◌<◌, List, [], ◌∷◌, ◌++◌, length, map, take, get_or, refl, sym, ap, subst, ◌∙◌, append_assoc, arith}
+use Rattle.std.proofs.Common.{◌≡◌, ℕ, suc, ◌+◌, ◌<◌, List, [], ◌∷◌, ◌++◌, length, take, get_or, refl, sym, ap, subst, ◌∙◌, append_assoc, arith}
 use Rattle.std.proofs.lemmas.List.{append-nil, length-append}
 use Rattle.std.proofs.lemmas.Option.{slice_get_read}
 use Rattle.resh_setup.specs.declared.event.Event.{Event}
@@ -9,6 +9,14 @@ use Rattle.resh_events.specs.Steps.{Line}
 use Rattle.resh_core.specs.Cores.{CoreOf, HasStepped}
 use Rattle.resh_run.specs.Cluster.{HaveAllStepped, HaveStepped, StepsOnce, lines_at, lines_from}
 use Rattle.resh_run.proofs.Taken.{take_more}
+
+-- each step shows its lines
+pub stepped_many : (events : List Event) (old : CoreOf) (before : Lucks) (shown : List (List Line)) (new : CoreOf) (later : Lucks)
+    → HaveStepped events old before shown new later → length shown ≡ length events
+stepped_many [] old before [] new later h = refl
+stepped_many [] old before (x ∷ xs) new later h = absurd h
+stepped_many (e ∷ es) old before [] new later h = absurd h
+stepped_many (e ∷ es) old before (x ∷ xs) new later h = ap suc (stepped_many es h.0 h.1 xs new later h.3)
 
 -- one step more
 pub steps_push : (events : List Event) (event : Event) (old middle new : CoreOf) (before told later : Lucks) (shown : List (List Line)) (lines : List Line)

@@ -6,6 +6,8 @@ use Rattle.resh_versions.specs.Chains.{Document}
 use Rattle.resh_shard.specs.Shards.{documents_of}
 use Rattle.resh_setup.specs.declared.event.Event.{Event}
 use Rattle.resh_setup.specs.declared.setup.Setup.{Setup}
+use Rattle.resh_setup.specs.declared.turn.Turn.{Turn}
+use Rattle.resh_model.specs.Orders.{holdings_of, last_state}
 use Rattle.resh_cells.specs.declared.cluster.Cluster.{Cluster}
 use Rattle.resh_events.specs.Lucks.{Lucks, planned}
 use Rattle.resh_events.specs.Steps.{Line}
@@ -57,6 +59,17 @@ core_page setup lines core end =
 -- what a core's run came to, in short
 abbrev pub core_summary : ℕ → Setup → CoreOf → End → List ℕ
 core_summary number setup core end = summary_of number setup end (replies_in core.cluster) (counts_in core.cluster)
+
+-- the page of an order, with the lines of steps: replies and documents are those of the order's last state
+abbrev pub page_with_lines_of : Setup → List (List ℕ) → List Turn → End → List ℕ
+page_with_lines_of setup lines order end =
+    page_with_lines_text lines setup.shards (names_of setup.clients) order end (last_state setup order).answers
+    (holdings_of (last_state setup order))
+
+-- what an order came to, in short, by its last state
+abbrev pub order_summary : ℕ → Setup → List Turn → End → List ℕ
+order_summary number setup order end = summary_of number setup end (last_state setup order).answers
+    (map (λ documents. length documents) (holdings_of (last_state setup order)))
 
 -- one step was made, and its lines were added
 abbrev pub StepsOnce : Setup → ℕ → Event → CoreOf → Lucks → List (List ℕ) → CoreOf → Lucks → List (List ℕ) → Type 0

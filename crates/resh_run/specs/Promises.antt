@@ -17,7 +17,7 @@ use Rattle.resh_report.specs.Refusals.{refusal_text}
 use Rattle.resh_gen.specs.Generated.{generated}
 use Rattle.resh_gen.specs.SetupText.{setup_text}
 use Rattle.resh_run.specs.Seen.{Seen}
-use Rattle.resh_run.specs.Top.{Asks, IsClusterRunOf, IsRunOf, IsSent, IsSummaryOf, HasNotFailed, said_in, is_fed}
+use Rattle.resh_run.specs.Top.{Asks, IsClusterRunOf, IsPlacement, IsRunOf, IsSent, IsSummaryOf, said_in, is_fed}
 use Rattle.resh_run.specs.Top.{is_running, is_served, needs_cluster, input_limit, too_long_text}
 use Rattle.resh_run.specs.Words.{asked_by}
 use Rattle.resh_run.specs.declared.words.Asked.TheVariants.{Plain, Check, Generate}
@@ -47,13 +47,18 @@ pub record IsAskedToPlace (words : List (String Global)) (source : Seen) (setup 
   pub asked : IsAskedFor words source setup
   pub needs : needs_cluster setup ≡ false
 
--- The headline: where such a run is asked for and the status meant is 0 or 1, what is said is a run of the setup, and
--- what is written is all of that text, or its first bytes with status 5.
+-- The headline: where a run of a setup is asked for and the status meant is 0 or 1, what is said is a run of the setup,
+-- and what is written is all of that text, or its first bytes with status 5.
 abbrev pub Headline : List (String Global) → Seen → Seen → Outcome → Type 0
-Headline words source sink outcome = (setup : Setup) → IsAskedToPlace words source setup → outcome.meant ≤ 1
+Headline words source sink outcome = (setup : Setup) → IsAskedFor words source setup → outcome.meant ≤ 1
     → (text : List ℕ) × IsRunOf setup (said_in outcome text) × IsSent sink text outcome
 
--- The same of a setup that needs a cluster: what is said is its run on one, by the table of events.
+-- Of a setup that needs no cluster, its documents are placed.
+abbrev pub RunsPlaced : List (String Global) → Seen → Seen → Outcome → Type 0
+RunsPlaced words source sink outcome = (setup : Setup) → IsAskedToPlace words source setup → outcome.meant ≤ 1
+    → (text : List ℕ) × IsPlacement setup (said_in outcome text) × IsSent sink text outcome
+
+-- Another one has run on a cluster, by the table of events.
 abbrev pub RunsCluster : List (String Global) → Seen → Seen → Outcome → Type 0
 RunsCluster words source sink outcome = (setup : Setup) → IsAskedFor words source setup → needs_cluster setup ≡ true
     → outcome.meant ≤ 1 → (text : List ℕ) × IsClusterRunOf setup (said_in outcome text) × IsSent sink text outcome
@@ -104,12 +109,11 @@ Completes words source outcome = (setup : Setup) → Asks words Plain → FeedsS
 abbrev pub IsWanting : Outcome → Type 0
 IsWanting outcome = (outcome.status ≡ 6) ⊎ (outcome.end ≡ Some (Aborted NoMemory))
 
--- One that needs no cluster commits, and all is written, where besides no clash stands at the mark, no abort is
--- accepted, no failure is licensed, and the sink counts no fault, unless memory is wanted.
+-- It commits, and all is written, where besides no clash stands at the mark, no abort is accepted, no failure is
+-- licensed, and the sink counts no fault, unless memory is wanted.
 abbrev pub Commits : List (String Global) → Seen → Seen → Outcome → Type 0
 Commits words source sink outcome = (setup : Setup) → Asks words Plain → FeedsSetup source setup
-    → needs_cluster setup ≡ false → HasNoClash setup.new_map (bag_at_mark setup outcome.order)
-    → AcceptsNone setup outcome.order
+    → HasNoClash setup.new_map (bag_at_mark setup outcome.order) → AcceptsNone setup outcome.order
     → LicensesNone setup.plan (crash_steps setup) → ¬ Rose sink.old.faults sink.new.faults
     → (outcome.status ≡ 0) ⊎ IsWanting outcome
 

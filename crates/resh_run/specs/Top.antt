@@ -1,5 +1,5 @@
 -- What the top call answers: what it means to say, and what of it was written.
-use Rattle.std.specs.Prelude.{◌≡◌, ◌≢◌, ℕ, ◌+◌, ◌<◌, ◌≤◌, Bool, true, false, not, ◌||◌, nat_lt, List, [], ◌∷◌, length}
+use Rattle.std.specs.Prelude.{◌≡◌, ◌≢◌, ℕ, ◌+◌, ◌<◌, ◌≤◌, Bool, true, false, not, ◌||◌, nat_lt, List, [], length}
 use Rattle.std.specs.Prelude.{take, codes, Option, Some, None, String}
 use Rattle.std.specs.declared.alloc.Global.{Global}
 use Rattle.std.specs.Io.KnownBytes.{Appends}
@@ -23,7 +23,8 @@ use Rattle.resh_report.specs.Lines.{line}
 use Rattle.resh_report.specs.Refusals.{refusal_text}
 use Rattle.resh_gen.specs.Generated.{generated}
 use Rattle.resh_gen.specs.SetupText.{setup_text}
-use Rattle.resh_run.specs.Cluster.{HasRun, HasRunGenerated, core_page, core_summary, lines_from}
+use Rattle.resh_run.specs.Cluster.{HasRun, HasRunGenerated, core_page, core_summary, lines_from, order_summary}
+use Rattle.resh_run.specs.Cluster.{page_with_lines_of}
 use Rattle.resh_run.specs.Seen.{Seen}
 use Rattle.resh_run.specs.Words.{asked_by}
 use Rattle.resh_run.specs.declared.words.Asked.{Asked}
@@ -106,25 +107,28 @@ said_in outcome text = record {
 }
 
 -- A run of the setup: the order is lawful, the end is its end and names no failure without licence, and the text is the
--- page of that order.
+-- page of that order, with the lines that each of the file's steps showed.
 pub record IsRunOf (setup : Setup) (said : Saying) : Type 0 where
   pub ended : End
+  pub shown : List (List Line)
+  pub each_step : length shown ≡ length setup.steps
   pub lawful : IsLawful setup said.order ended
   pub licensed : HasLicence setup.plan (crash_steps setup) ended
   pub end_is : said.end ≡ Some ended
   pub meant_is : said.meant ≡ status_of ended
-  pub page_is : said.text ≡ page_of setup said.order ended
+  pub page_is : said.text ≡ page_with_lines_of setup (lines_from setup 1 shown) said.order ended
 
 -- the end, if there is one, is no failure
 abbrev pub HasNotFailed : Option End → Type 0
 HasNotFailed end = (ended : End) → end ≡ Some ended → is_failure ended ≡ false
 
--- a run whose documents are placed, without a cluster
+-- a run whose documents are placed, without a cluster: the text is the page of the order, and no step showed a line
 pub record IsPlacement (setup : Setup) (said : Saying) : Type 0 where
   pub needs : needs_cluster setup ≡ false
   pub run : IsRunOf setup said
   pub well : HasNotFailed said.end
   pub trace_is : said.trace ≡ None
+  pub page_is : said.text ≡ page_of setup said.order run.ended
 
 -- the turns, and the end with its status, are those of a core that decided
 pub record IsCoreEnd (core : CoreOf) (ended : End) (said : Saying) : Type 0 where
@@ -135,7 +139,8 @@ pub record IsCoreEnd (core : CoreOf) (ended : End) (said : Saying) : Type 0 wher
 
 -- A run on a cluster: from the opening state, with the lucks that the plan says, the file's steps and then the sweep.
 -- The events are that core's, the text is its page, with the steps' lines, and an end that is a failure has its licence
--- by the file's own plan and its steps that crash links.
+-- by the file's own plan and its steps that crash links. It is a run of one collection: the order is lawful, and the
+-- page is that of the order.
 pub record IsClusterRunOf (setup : Setup) (said : Saying) : Type 0 where
   pub shown : List (List Line)
   pub last : CoreOf
@@ -145,13 +150,16 @@ pub record IsClusterRunOf (setup : Setup) (said : Saying) : Type 0 where
   pub licensed : HasLicence setup.plan (crash_steps setup) ended
   pub trace_is : said.trace ≡ Some last.trace
   pub page_is : said.text ≡ core_page setup (lines_from setup 1 shown) last ended
+  pub lawful : IsLawful setup said.order ended
+  pub page_of_order : said.text ≡ page_with_lines_of setup (lines_from setup 1 shown) said.order ended
 
 -- what a setup's run comes to
 pub data RunsTo (setup : Setup) (said : Saying) : Type 0 where
   placed : IsPlacement setup said → RunsTo setup said
   clustered : needs_cluster setup ≡ true → IsClusterRunOf setup said → RunsTo setup said
 
--- the run of a generated setup by the sweep alone; the text is its summary
+-- the run of a generated setup by the sweep alone: its order is lawful, and the text is the summary of the core and of
+-- that order
 pub record IsSummaryOf (number : ℕ) (said : Saying) : Type 0 where
   pub last : CoreOf
   pub ended : End
@@ -159,6 +167,9 @@ pub record IsSummaryOf (number : ℕ) (said : Saying) : Type 0 where
   pub ends : IsCoreEnd last ended said
   pub trace_is : said.trace ≡ None
   pub text_is : said.text ≡ core_summary number (generated number) last ended
+  pub lawful : IsLawful (generated number) said.order ended
+  pub licensed : HasLicence (generated number).plan (crash_steps (generated number)) ended
+  pub text_of_order : said.text ≡ order_summary number (generated number) said.order ended
 
 -- the whole input was read, and is no longer than the limit
 pub record IsWhole (source : Seen) (bytes : List ℕ) : Type 0 where

@@ -1,6 +1,6 @@
 //! A setup's run on a cluster: the file's steps one by one, each with its lines, and then the sweep.
 
-ghost use Rattle.std.specs.Prelude.{◌≡◌, ◌++◌, ◌+◌, length, Some, IfOk, OnOk};
+ghost use Rattle.std.specs.Prelude.{◌≡◌, ◌++◌, ◌+◌, length, is_some, true, Some, IfOk, OnOk};
 ghost use Rattle.resh_setup.specs.Validity.{IsValid};
 ghost use Rattle.resh_shard.specs.Shards.{documents_of};
 ghost use Rattle.resh_core.specs.Cores.{opening_core, tolds};
@@ -77,6 +77,7 @@ fn summary_of(
     setup: &Setup,
     core: &Core<'_>,
 ) -> Result<Written, NoMemory>
+    requires decided { is_some core.now.cluster.control.decision ≡ true }
     ensures { IfOk result (IsSummed number setup.now core.now) }
 {
     let end = end_of(alloc, core)?;
@@ -88,11 +89,12 @@ fn summary_of(
 
 /// What the coordinator decided, which a core that is over has.
 fn end_of(alloc: Global, core: &Core<'_>) -> Result<End, NoMemory>
+    requires decided { is_some core.now.cluster.control.decision ≡ true }
     ensures { IfOk result (λ end. core.now.cluster.control.decision ≡ Some end) }
 {
     match core.end() {
         Some(end) => end.copy(alloc),
-        None => Err(NoMemory),
+        None => unreachable!(),
     }
 }
 
@@ -168,6 +170,7 @@ fn page_of(
     core: &Core<'_>,
     lines: &Lines,
 ) -> Result<Written, NoMemory>
+    requires decided { is_some core.now.cluster.control.decision ≡ true }
     ensures { IfOk result (IsPaged setup.now lines.now core.now) }
 {
     let end = end_of(alloc, core)?;

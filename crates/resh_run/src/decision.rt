@@ -13,6 +13,7 @@ use resh_config::read_setup;
 use resh_coord::End;
 use resh_gen::generated_text;
 use resh_io::{ReadAllFault, Source, read_all};
+use resh_law::schedule_laws;
 use resh_model::run_of;
 use resh_report::{checked, page, refusal};
 use resh_setup::{Setup, SetupFault, Trace, Turns};
@@ -111,6 +112,7 @@ fn number_says(alloc: Global, number: u32, print: bool) -> Said
 fn sum_says(alloc: Global, number: u32) -> Said
     ensures { SumSays number result }
 {
+    schedule_laws();
     match run_generated(alloc, number) {
         Ok(ran) => Said::Ran {
             order: ran.order,
@@ -166,6 +168,7 @@ fn cluster_says(alloc: Global, setup: &Setup) -> Said
     requires needs { needs_cluster setup.now ≡ true }
     ensures { SetupSays setup.now result }
 {
+    schedule_laws();
     match run_on_cluster(alloc, setup) {
         Ok(ran) => Said::Ran {
             order: ran.order,

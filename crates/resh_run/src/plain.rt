@@ -2,7 +2,8 @@ ghost use Rattle.std.specs.Prelude.{◌≡◌, false, None};
 ghost use Rattle.resh_io.specs.Causes.{Rose};
 ghost use Rattle.resh_run.specs.Answer.{said};
 ghost use Rattle.resh_run.specs.Promises.{Checks, Commits, Completes, FailsToWrite, Headline, Prints, RefusesFaults};
-ghost use Rattle.resh_run.specs.Promises.{RefusesLong, RunsCluster, RunsNothing, RunsOneMark, Sums, TellsUsage};
+ghost use Rattle.resh_run.specs.Promises.{RefusesLong, RunsCluster, RunsNothing, RunsOneMark, RunsPlaced, Sums};
+ghost use Rattle.resh_run.specs.Promises.{TellsUsage};
 ghost use Rattle.resh_run.specs.Seen.{seen};
 ghost use Rattle.resh_run.specs.Top.{IsOutcome, IsSent, is_fed, said_in};
 ghost use Rattle.resh_run.specs.Words.{asked_by};
@@ -47,6 +48,8 @@ pub fn plain_main<S: Source, K: Sink>(
     ensures outcome { IsOutcome words.now (seen S.left S.faults source.old source.new)
         (seen K.written K.faults sink.old sink.new) result }
     ensures headline { Headline words.now (seen S.left S.faults source.old source.new)
+        (seen K.written K.faults sink.old sink.new) result }
+    ensures placed { RunsPlaced words.now (seen S.left S.faults source.old source.new)
         (seen K.written K.faults sink.old sink.new) result }
     ensures cluster { RunsCluster words.now (seen S.left S.faults source.old source.new)
         (seen K.written K.faults sink.old sink.new) result }

@@ -1,8 +1,11 @@
-use Rattle.resh_run.proofs.Meant.{outcome_of, headline, refuses_faults, runs_cluster, sums_ones, checks, prints_ones, tells_usage, runs_nothing, completes, commits, runs_one_mark}
+use Rattle.resh_run.proofs.Meant.{outcome_of, headline, refuses_faults, runs_cluster, runs_placing, sums_ones, checks, prints_ones, tells_usage, runs_nothing, completes, commits, runs_one_mark}
 use Rattle.resh_run.proofs.plain.plain_main.Goals as goal
 
 pub returns-clause-headline : goal.returns-clause-headline
 returns-clause-headline g c = headline _ _ _ _ (outcome_of _ _ _ c.decide-saying.result _ c.send.ensures.said c.decide-saying.ensures c.send.ensures.sent)
+
+pub returns-clause-placed : goal.returns-clause-placed
+returns-clause-placed g c = runs_placing _ _ _ _ (outcome_of _ _ _ c.decide-saying.result _ c.send.ensures.said c.decide-saying.ensures c.send.ensures.sent)
 
 pub returns-clause-refused : goal.returns-clause-refused
 returns-clause-refused g c = refuses_faults _ _ _ _ (outcome_of _ _ _ c.decide-saying.result _ c.send.ensures.said c.decide-saying.ensures c.send.ensures.sent)
