@@ -4,6 +4,10 @@
 #[cfg(test)]
 mod mailbox;
 #[cfg(test)]
+mod mix;
+#[cfg(test)]
+mod pair;
+#[cfg(test)]
 mod round;
 #[cfg(test)]
 mod turn;

@@ -1,6 +1,6 @@
 //! Rounds of jobs that count their turns.
 
-ghost use Rattle.std.specs.Prelude.{◌≡◌};
+ghost use Rattle.std.specs.Prelude.{◌≡◌, ◌<◌, vec_len, IfOk};
 
 use resh_pool::{Gate, Job, OpenGate, Point, run_round};
 use resh_value::NoMemory;
@@ -9,6 +9,7 @@ use std::sync::Wait;
 use std::sync::atomic::{AtomicU64, Ordering};
 use std::test::Fail;
 use std::thread;
+use std::thread::Threads;
 
 /// Counts its turns, and keeps the number of the last.
 #[derive(Drop)]
@@ -28,12 +29,14 @@ impl Job for Counting {
     }
 }
 
-fn jobs(alloc: Global, many: u32) -> Result<Vec<Counting>, NoMemory> {
+fn jobs(alloc: Global, many: u32) -> Result<Vec<Counting>, NoMemory>
+    ensures { IfOk result (λ jobs. vec_len jobs ≡ many) }
+{
     let mut jobs = Vec::new(alloc);
     for _ in 0..many {
         jobs.push(Counting {
             turns: 0,
-            number: 99,
+            number: 999,
         })?;
     }
     Ok(jobs)
@@ -51,17 +54,27 @@ fn each_once(jobs: &[Counting]) -> bool {
     true
 }
 
+/// What a round makes of so many jobs.
+fn turned<R: Threads + Wait + Sync, G: Gate>(
+    rt: &R,
+    alloc: Global,
+    many: u32,
+    gate: &G,
+    workers: u32,
+) -> Result<Vec<Counting>, NoMemory>
+    requires { 0 < workers }
+{
+    run_round(rt, jobs(alloc, many)?, gate, workers)
+}
+
 #[test]
 fn each_job_makes_one_turn(rt: HostRuntime) -> Result<(), Fail> {
-    for workers in [1u32, 2, 3, 5, 9] {
-        let jobs = jobs(rt.alloc(), 5)?;
-        if workers > 0 && jobs.len() == 5 {
-            let made = run_round(&rt, jobs, &OpenGate, workers)?;
-            assert!(rt;
-                made.len() == 5 && each_once(made.as_slice()),
-                "{workers} workers"
-            );
-        }
+    for workers in [1u32, 3, 4, 16, 60] {
+        let made = turned(&rt, rt.alloc(), 50, &OpenGate, workers.max(1))?;
+        assert!(rt;
+            made.len() == 50 && each_once(made.as_slice()),
+            "{workers} workers"
+        );
     }
     Ok(())
 }
@@ -79,7 +92,7 @@ impl Gate for Meeting {
             return;
         }
         self.came.fetch_add(1, Ordering::SeqCst);
-        for _ in 0..100_000_000u64 {
+        for _ in 0..20_000_000u64 {
             if self.came.load(Ordering::SeqCst) > 1 {
                 self.met.fetch_add(1, Ordering::SeqCst);
                 return;
@@ -95,10 +108,7 @@ fn two_jobs_are_made_at_once(rt: HostRuntime) -> Result<(), Fail> {
         came: AtomicU64::new(0),
         met: AtomicU64::new(0),
     };
-    let jobs = jobs(rt.alloc(), 2)?;
-    if jobs.len() == 2 {
-        run_round(&rt, jobs, &gate, 2)?;
-    }
-    assert_eq!(rt; gate.met.load(Ordering::SeqCst), 2);
+    let made = turned(&rt, rt.alloc(), 2, &gate, 2)?;
+    assert_eq!(rt; (made.len(), gate.met.load(Ordering::SeqCst)), (2, 2));
     Ok(())
 }

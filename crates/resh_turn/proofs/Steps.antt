@@ -120,11 +120,6 @@ module _ {S T G : Type 0} (start : S → G) (journal : S → List (Made T)) wher
     few = room;
   }
 
-  pub begins_at : (x y : S) (passes : ℕ) (items : List (Option S)) → items ≡ Some x ∷ [] → y ≡ x → 0 < passes → journal x ≡ []
-      → Kept start journal (start y) passes (opening (0 ∷ []) items (opened (start y)))
-  begins_at x y passes items is same room fresh =
-      subst (λ (z : List (Option S) × S). Kept start journal (start z.1) passes (opening (0 ∷ []) z.0 (opened (start z.1)))) (λ i. (sym is i, sym same i)) (begins x passes room fresh)
-
   pub begins_with : (x : S) (begun : G) (passes : ℕ) (items : List (Option S)) → items ≡ Some x ∷ [] → start x ≡ begun → 0 < passes → journal x ≡ []
       → Kept start journal begun passes (opening (0 ∷ []) items (opened begun))
   begins_with x begun passes items is same room fresh =

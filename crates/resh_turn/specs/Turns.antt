@@ -1,5 +1,6 @@
 -- The rule of a cell with turns: of its word, of its slot, and of what each pass knows.
-use Rattle.std.specs.Prelude.{Box, ◌≡◌, Bool, ℕ, ◌+◌, ◌<◌, ◌≤◌, true, false, List, [], ◌∷◌, length, Option, Some, None, ◌==◌, ◌⊎◌, MatchBool}
+use Rattle.std.specs.Prelude.{◌≡◌, ℕ, ◌+◌, ◌<◌, ◌≤◌, Bool, true, false, ◌==◌, ◌⊎◌, MatchBool}
+use Rattle.std.specs.Prelude.{Box, List, [], ◌∷◌, length, Option, Some, None}
 use mathlib.Core.Option.{some, none, Option as Maybe}
 use lib.ListN.{get_elem?}
 use Rattle.atomic_table.specs.Table.{State, Me, Step}

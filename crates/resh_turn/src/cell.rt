@@ -1,6 +1,7 @@
 //! The cell whose value threads change in turn, and the hold of a turn.
 
-ghost use Rattle.std.specs.Prelude.{◌≡◌, ◌+◌, ◌<◌, ◌≤◌, true, false, [], ◌∷◌, ◌++◌, length, map, Some, IfOk, IfErr, OnErr, IsOk};
+ghost use Rattle.std.specs.Prelude.{◌≡◌, ◌+◌, ◌<◌, ◌≤◌, true, false, Some, IfOk, IfErr, OnErr, IsOk};
+ghost use Rattle.std.specs.Prelude.{[], ◌∷◌, ◌++◌, length, map};
 ghost use Rattle.resh_turn.specs.Replay.{Adds, Each, IsFront, made, own_of, replay};
 ghost use Rattle.resh_turn.specs.Held.{AreAlong, IsEnd, IsKnownOf, given_back, has_all, known_of, numbered, unused};
 ghost use Rattle.resh_turn.specs.Turns.{opening};
