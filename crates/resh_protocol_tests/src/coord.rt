@@ -2,141 +2,211 @@ use resh_coord::{Asked, Cause, Coordinator, End, Node, Phase, Why, coordinator_l
 use resh_progress::Message;
 use resh_value::{Copied, ShardId, Value, Words};
 use std::alloc::Global;
-use std::process::Abort;
 use std::test::Fail;
 
-#[test]
-fn copies(rt: HostRuntime) -> Result<(), Fail> {
-    let alloc = rt.alloc();
-    let id = Value::Text(Words::of(alloc, "ann")?);
+/// A copy of a clash on this name, and copies of this end and of a commit.
+fn copies(alloc: Global, name: &str, end: &End) -> Result<String, Fail> {
     let clash = Cause::Clash {
         shard: ShardId(3),
-        id,
+        id: Value::Text(Words::of(alloc, name)?),
     };
-    match clash.copied(alloc)? {
-        Cause::Clash {
-            shard,
-            id: Value::Text(name),
-        } => {
-            assert_eq!(rt; shard, ShardId(3));
-            assert_eq!(rt; name.as_str(), "ann");
-        }
-        _ => panic!(rt; "another cause"),
-    }
+    let clash = clash.copied(alloc)?;
+    let end = end.copy(alloc)?;
+    let committed = End::Committed.copy(alloc)?;
+    Ok(format!(in alloc; "{clash:?}, {end:?}, {committed:?}")?)
+}
+
+const COPIES: &str = "Clash { shard: ShardId(3), id: Text(Words { text: \"ann\" }) }, \
+    Aborted(Asked { client: 2, number: 7 }), Committed";
+
+#[test]
+fn causes_and_ends_are_copied(rt: HostRuntime) -> Result<(), Fail> {
     let asked = End::Aborted(Cause::Asked {
         client: 2,
         number: 7,
     });
-    match asked.copy(alloc)? {
-        End::Aborted(Cause::Asked { client, number }) => assert_eq!(rt; (client, number), (2, 7)),
-        _ => panic!(rt; "another end"),
-    }
-    match End::Committed.copy(alloc)? {
-        End::Committed => Ok(()),
-        End::Aborted(_) => panic!(rt; "aborted"),
-    }
+    assert_eq!(rt; copies(rt.alloc(), "ann", &asked)?.as_str(), COPIES);
+    Ok(())
 }
 
-const SHARDS: [ShardId; 2] = [ShardId(0), ShardId(1)];
+/// What is asked of a coordinator of two shards, and what it answers.
+#[derive(Clone, Copy)]
+enum Act {
+    Begin(bool),
+    /// At this time it goes on to this phase, or stays.
+    Advance(u64, Option<Phase>),
+    In(Phase),
+    Says(Option<Message>),
+    /// Each shard may be told, and is.
+    TellAll,
+    IsTold(ShardId, bool),
+    /// A shard reports once, with the number that is a clash or with none.
+    Report(ShardId, Option<i64>),
+    IsReported(ShardId, bool),
+    Crash(u32),
+    /// The command of this number of this client asks for an abort.
+    Abort(u32, u32, Asked),
+    /// It crashes 64 times.
+    Fail(bool),
+    /// What was decided.
+    Decided(&'static str),
+}
 
-fn tell_all(coordinator: &mut Coordinator) -> Result<(), Fail> {
-    for shard in SHARDS {
+const A: ShardId = ShardId(0);
+
+const B: ShardId = ShardId(1);
+
+/// All were told that writes are blocked.
+const BLOCKING: [Act; 27] = [
+    Act::Begin(true),
+    Act::Begin(false),
+    Act::Advance(6, None),
+    Act::TellAll,
+    Act::Advance(7, Some(Phase::Cloning)),
+    Act::Says(Some(Message::Donate { fetch_time: 7 })),
+    Act::IsTold(A, false),
+    Act::TellAll,
+    Act::Advance(8, None),
+    Act::Report(A, None),
+    Act::IsReported(A, true),
+    Act::Advance(8, None),
+    Act::Report(B, None),
+    Act::IsReported(B, true),
+    Act::Advance(8, Some(Phase::Applying)),
+    Act::IsReported(B, false),
+    Act::Advance(8, None),
+    Act::Report(A, None),
+    Act::IsReported(A, true),
+    Act::Advance(8, None),
+    Act::Report(B, None),
+    Act::IsReported(B, true),
+    Act::Advance(8, Some(Phase::BlockingWrites)),
+    Act::IsReported(B, false),
+    Act::IsTold(A, false),
+    Act::TellAll,
+    Act::IsTold(A, true),
+];
+
+const COMMITS: [Act; 11] = [
+    Act::Report(A, None),
+    Act::Report(B, None),
+    Act::Decided("None"),
+    Act::Advance(9, Some(Phase::Committing)),
+    Act::Decided("Some(Committed)"),
+    Act::Abort(1, 1, Asked::TooLate),
+    Act::Says(Some(Message::Install)),
+    Act::TellAll,
+    Act::Advance(10, Some(Phase::Done)),
+    Act::Says(None),
+    Act::Advance(11, None),
+];
+
+const CLASHES: [Act; 5] = [
+    Act::Report(B, Some(2)),
+    Act::Report(A, Some(5)),
+    Act::Advance(9, Some(Phase::Aborting)),
+    Act::Decided("Some(Aborted(Clash { shard: ShardId(0), id: Int(5) }))"),
+    Act::Says(Some(Message::Release)),
+];
+
+const ASKS: [Act; 5] = [
+    Act::Crash(1),
+    Act::Abort(3, 2, Asked::Accepted),
+    Act::In(Phase::Aborting),
+    Act::Fail(false),
+    Act::Decided("Some(Aborted(Asked { client: 3, number: 2 }))"),
+];
+
+fn tell_all(coordinator: &mut Coordinator) -> bool {
+    for shard in [A, B] {
         if !coordinator.may_tell(shard) {
-            return Err(Fail::from("it may not be told"));
+            return false;
         }
         coordinator.told(shard);
     }
-    Ok(())
+    true
 }
 
-fn report(coordinator: &mut Coordinator, shard: ShardId, clash: Option<Value>) -> Result<(), Fail> {
+/// Whether the shard may report, and then may no more.
+fn reports(coordinator: &mut Coordinator, shard: ShardId, clash: Option<i64>) -> bool {
     if !coordinator.may_report(shard) {
-        return Err(Fail::from("it may not report"));
+        return false;
     }
     match clash {
         None => coordinator.reported(shard, None),
-        Some(id) => match coordinator.phase() {
-            Phase::BlockingWrites => coordinator.reported(shard, Some(id)),
-            _ => return Err(Fail::from("no clash yet")),
+        Some(number) => match coordinator.phase() {
+            Phase::BlockingWrites => coordinator.reported(shard, Some(Value::Int(number))),
+            _ => return false,
         },
     }
-    Ok(())
+    !coordinator.may_report(shard)
 }
 
-// All were told that writes are blocked.
-fn blocking(rt: &impl Abort, alloc: Global) -> Result<Coordinator, Fail> {
-    let mut coordinator = Coordinator::new(alloc, 2)?;
-    assert!(rt; coordinator.begin() && !coordinator.begin());
-    assert_eq!(rt; coordinator.advance(6), None);
-    tell_all(&mut coordinator)?;
-    assert_eq!(rt; coordinator.advance(7), Some(Phase::Cloning));
-    assert_eq!(rt;
-        coordinator.message(),
-        Some(Message::Donate { fetch_time: 7 })
-    );
-    assert!(rt; !coordinator.is_told(SHARDS[0]));
-    tell_all(&mut coordinator)?;
-    for phase in [Phase::Applying, Phase::BlockingWrites] {
-        for shard in SHARDS {
-            assert_eq!(rt; coordinator.advance(8), None);
-            report(&mut coordinator, shard, None)?;
-            assert!(rt; coordinator.is_reported(shard) && !coordinator.may_report(shard));
-        }
-        assert_eq!(rt; coordinator.advance(8), Some(phase));
-        assert!(rt; !coordinator.is_reported(SHARDS[1]));
+fn is_decided(alloc: Global, coordinator: &Coordinator, text: &str) -> Result<bool, Fail> {
+    let decision = format!(in alloc; "{:?}", coordinator.decision())?;
+    Ok(decision.as_str() == text)
+}
+
+fn fails(coordinator: &mut Coordinator) -> bool {
+    coordinator.fail(Cause::Failed {
+        node: Node::Coordinator,
+        cause: Why::Crashes,
+    })
+}
+
+fn is_so(alloc: Global, coordinator: &mut Coordinator, act: Act) -> Result<bool, Fail> {
+    match act {
+        Act::Begin(begins) => Ok(coordinator.begin() == begins),
+        Act::Advance(time, phase) => Ok(coordinator.advance(time) == phase),
+        Act::In(phase) => Ok(coordinator.phase() == phase),
+        Act::Says(message) => Ok(coordinator.message() == message),
+        Act::TellAll => Ok(tell_all(coordinator)),
+        Act::IsTold(shard, told) => Ok(coordinator.is_told(shard) == told),
+        Act::Report(shard, clash) => Ok(reports(coordinator, shard, clash)),
+        Act::IsReported(shard, reported) => Ok(coordinator.is_reported(shard) == reported),
+        Act::Crash(crashes) => Ok(coordinator.crashed() == crashes),
+        Act::Abort(client, number, asked) => Ok(coordinator.abort(client, number) == asked),
+        Act::Fail(fails_now) => Ok(fails(coordinator) == fails_now),
+        Act::Decided(text) => is_decided(alloc, coordinator, text),
     }
-    tell_all(&mut coordinator)?;
-    Ok(coordinator)
+}
+
+/// The first place at which the coordinator answers otherwise.
+fn wrong_act(
+    alloc: Global,
+    coordinator: &mut Coordinator,
+    acts: &[Act],
+) -> Result<Option<usize>, Fail> {
+    for (place, act) in acts.iter().enumerate() {
+        if !is_so(alloc, coordinator, *act)? {
+            return Ok(Some(place));
+        }
+    }
+    Ok(None)
+}
+
+/// The first wrong answer of a new coordinator to some acts, and to those behind them.
+fn wrong(alloc: Global, acts: &[Act], behind: &[Act]) -> Result<[Option<usize>; 2], Fail> {
+    let mut coordinator = Coordinator::new(alloc, 2)?;
+    let wrong = wrong_act(alloc, &mut coordinator, acts)?;
+    Ok([wrong, wrong_act(alloc, &mut coordinator, behind)?])
 }
 
 #[test]
 fn a_coordinator_commits_where_no_clash_is_reported(rt: HostRuntime) -> Result<(), Fail> {
     coordinator_laws();
-    let mut coordinator = blocking(&rt, rt.alloc())?;
-    for shard in SHARDS {
-        report(&mut coordinator, shard, None)?;
-    }
-    assert!(rt; coordinator.decision().is_none());
-    assert_eq!(rt; coordinator.advance(9), Some(Phase::Committing));
-    assert!(rt; matches!(coordinator.decision(), Some(End::Committed)));
-    assert_eq!(rt; coordinator.abort(1, 1), Asked::TooLate);
-    tell_all(&mut coordinator)?;
-    assert_eq!(rt; coordinator.advance(10), Some(Phase::Done));
-    assert_eq!(rt; coordinator.message(), None);
-    assert_eq!(rt; coordinator.advance(11), None);
+    assert_eq!(rt; wrong(rt.alloc(), &BLOCKING, &COMMITS)?, [None, None]);
     Ok(())
 }
 
 #[test]
 fn the_clash_of_the_least_shard_refuses(rt: HostRuntime) -> Result<(), Fail> {
-    let mut coordinator = blocking(&rt, rt.alloc())?;
-    report(&mut coordinator, SHARDS[1], Some(Value::Int(2)))?;
-    report(&mut coordinator, SHARDS[0], Some(Value::Int(5)))?;
-    assert_eq!(rt; coordinator.advance(9), Some(Phase::Aborting));
-    match coordinator.decision() {
-        Some(End::Aborted(Cause::Clash { shard, id })) => {
-            assert_eq!(rt; (*shard, id), (SHARDS[0], &Value::Int(5)));
-        }
-        _ => panic!(rt; "another decision"),
-    }
-    assert_eq!(rt; coordinator.message(), Some(Message::Release));
+    assert_eq!(rt; wrong(rt.alloc(), &BLOCKING, &CLASHES)?, [None, None]);
     Ok(())
 }
 
 #[test]
 fn the_first_cause_stands(rt: HostRuntime) -> Result<(), Fail> {
-    let mut coordinator = Coordinator::new(rt.alloc(), 2)?;
-    assert_eq!(rt; coordinator.crashed(), 1);
-    assert_eq!(rt; coordinator.abort(3, 2), Asked::Accepted);
-    assert_eq!(rt; coordinator.phase(), Phase::Aborting);
-    let node = Node::Coordinator;
-    let cause = Why::Crashes;
-    assert!(rt; !coordinator.fail(Cause::Failed { node, cause }));
-    match coordinator.decision() {
-        Some(End::Aborted(Cause::Asked { client, number })) => {
-            assert_eq!(rt; (*client, *number), (3, 2));
-        }
-        _ => panic!(rt; "another decision"),
-    }
+    assert_eq!(rt; wrong(rt.alloc(), &[], &ASKS)?, [None, None]);
     Ok(())
 }

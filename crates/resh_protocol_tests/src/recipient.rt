@@ -2,12 +2,12 @@ use resh_progress::{Message, Step};
 use resh_recip::{Recipient, RecipientPhase, recipient_laws};
 use std::test::Fail;
 
-const PHASES: [RecipientPhase; 5] = [
+/// The phases before the last one.
+const PHASES: [RecipientPhase; 4] = [
     RecipientPhase::AwaitingFetchTime,
     RecipientPhase::Cloning,
     RecipientPhase::Applying,
     RecipientPhase::StrictConsistency,
-    RecipientPhase::Done,
 ];
 
 fn tell(recipient: &mut Recipient, message: &Message) -> Option<Step> {
@@ -34,44 +34,98 @@ fn make(recipient: &mut Recipient, place: usize) -> Option<Step> {
     }
 }
 
-#[test]
-fn walks_through_its_phases(rt: HostRuntime) -> Result<(), Fail> {
-    recipient_laws();
-    let mut recipient = Recipient::new();
-    for place in 0..4 {
-        assert_eq!(rt; recipient.phase(), PHASES[place]);
-        assert_eq!(rt; make(&mut recipient, place), Some(Step::Moved));
-        for earlier in 0..=place {
-            assert_eq!(rt; make(&mut recipient, earlier), Some(Step::Same));
-        }
-        for later in place + 2..4 {
-            assert_eq!(rt; make(&mut recipient, later), None);
-        }
-        for message in [Message::Prepare, Message::Block] {
-            assert!(rt; !recipient.may(&message) && !recipient.was_told(&message));
+/// What each of the four moves is answered, in turn.
+fn moves(recipient: &mut Recipient) -> [Option<Step>; 4] {
+    let first = make(recipient, 0);
+    let second = make(recipient, 1);
+    let third = make(recipient, 2);
+    [first, second, third, make(recipient, 3)]
+}
+
+/// Whether the moves behind the next one may not be made yet.
+fn waits(recipient: &mut Recipient, place: usize) -> bool {
+    for later in place.saturating_add(2)..4 {
+        if make(recipient, later).is_some() {
+            return false;
         }
     }
-    assert_eq!(rt; recipient.phase(), RecipientPhase::Done);
-    assert_eq!(rt; tell(&mut recipient, &Message::Release), None);
+    true
+}
+
+/// Whether the moves up to this place change nothing more.
+fn repeats(recipient: &mut Recipient, place: usize) -> bool {
+    for earlier in 0..=place {
+        if make(recipient, earlier) != Some(Step::Same) {
+            return false;
+        }
+    }
+    true
+}
+
+/// Whether it was told what only donors are told, or may be.
+fn hears_donors(recipient: &Recipient) -> bool {
+    for message in [Message::Prepare, Message::Block] {
+        if recipient.may(&message) || recipient.was_told(&message) {
+            return true;
+        }
+    }
+    false
+}
+
+/// The first place at which a recipient doesn't do what it should; none where it ends as it should.
+fn wrong_place() -> Option<usize> {
+    recipient_laws();
+    let mut recipient = Recipient::new();
+    for (place, phase) in PHASES.iter().enumerate() {
+        let begins = recipient.phase() == *phase;
+        let moves = make(&mut recipient, place) == Some(Step::Moved);
+        let repeats = repeats(&mut recipient, place);
+        let waits = waits(&mut recipient, place);
+        if !begins || !moves || !repeats || !waits || hears_donors(&recipient) {
+            return Some(place);
+        }
+    }
+    let ends = recipient.phase() == RecipientPhase::Done;
+    if !ends || tell(&mut recipient, &Message::Release).is_some() {
+        return Some(4);
+    }
+    None
+}
+
+#[test]
+fn walks_through_its_phases(rt: HostRuntime) -> Result<(), Fail> {
+    assert_eq!(rt; wrong_place(), None);
     Ok(())
+}
+
+/// Makes the first moves, so many; whether each of them moves.
+fn goes(recipient: &mut Recipient, moves: usize) -> bool {
+    for place in 0..moves {
+        if make(recipient, place) != Some(Step::Moved) {
+            return false;
+        }
+    }
+    true
+}
+
+/// Whether a recipient is released after so many moves, and answers each move so after that.
+fn is_released(count: usize, answers: [Option<Step>; 4]) -> bool {
+    let mut recipient = Recipient::new();
+    let goes = goes(&mut recipient, count);
+    let first = tell(&mut recipient, &Message::Release) == Some(Step::Moved);
+    let again = tell(&mut recipient, &Message::Release) == Some(Step::Same);
+    let ends = recipient.phase() == RecipientPhase::Done;
+    goes && first && again && ends && moves(&mut recipient) == answers
 }
 
 #[test]
 fn is_released_in_each_phase(rt: HostRuntime) -> Result<(), Fail> {
-    for moves in 0..4 {
-        let mut recipient = Recipient::new();
-        for place in 0..moves {
-            assert_eq!(rt; make(&mut recipient, place), Some(Step::Moved));
-        }
-        for step in [Step::Moved, Step::Same] {
-            assert_eq!(rt; tell(&mut recipient, &Message::Release), Some(step));
-        }
-        assert_eq!(rt; recipient.phase(), RecipientPhase::Done);
-        let told = if moves > 0 { Some(Step::Same) } else { None };
-        assert_eq!(rt; make(&mut recipient, 0), told);
-        assert_eq!(rt; make(&mut recipient, 1), Some(Step::Same));
-        assert_eq!(rt; make(&mut recipient, 2), Some(Step::Same));
-        assert_eq!(rt; make(&mut recipient, 3), None);
+    let same = Some(Step::Same);
+    for (count, told) in [(0, None), (1, same), (2, same), (3, same)] {
+        assert!(rt;
+            is_released(count, [told, same, same, None]),
+            "after {count}"
+        );
     }
     Ok(())
 }

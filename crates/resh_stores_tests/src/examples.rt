@@ -28,6 +28,31 @@ pub(crate) fn change(alloc: Global, name: &str, value: i64) -> Result<Change, Fa
     }
 }
 
+/// The number that a document has under `n`; -1 where there is none.
+pub(crate) fn number(document: Option<&Document>) -> i64 {
+    match document.and_then(|document| document.get_by("n")) {
+        Some(Value::Int(n)) => *n,
+        _ => -1,
+    }
+}
+
+/// The number that an `_id` is; none where it isn't one.
+pub(crate) fn number_of(id: Option<&Value>) -> Option<i64> {
+    match id {
+        Some(Value::Int(number)) => Some(*number),
+        _ => None,
+    }
+}
+
+/// The texts of documents, one behind the other.
+pub(crate) fn texts(alloc: Global, documents: &[Document]) -> Result<String, NoMemory> {
+    let mut texts = String::new(alloc);
+    for document in documents {
+        texts.push_str(document.text(alloc)?.as_str())?;
+    }
+    Ok(texts)
+}
+
 fn bound(alloc: Global, at: i64) -> Result<Bound, Fail> {
     let mut key = Sequence::new(alloc);
     key.push(Value::Int(at))?;

@@ -1,38 +1,53 @@
 //! How far a feed is read.
 
+use crate::examples::number_of;
 use resh_feed::{After, Item, Reading};
 use resh_oplog::What;
 use resh_stamp::{Mark, Stamp};
 use resh_value::Value;
 use std::test::Fail;
 
-fn mark(time: u64) -> Mark {
+fn mark() -> Mark {
     Mark {
-        stamp: Stamp { time, node: 1 },
+        stamp: Stamp { time: 3, node: 1 },
         part: 0,
     }
 }
 
-#[test]
-fn reading_goes_past_items(rt: HostRuntime) -> Result<(), Fail> {
+/// A reading that is past an item of the copies.
+fn cloned() -> Reading {
     let start = Reading {
         last_id: None,
         mark: None,
         finished: false,
     };
-    let cloned = start.past(Item {
+    start.past(Item {
         what: What::Delete { id: Value::Int(4) },
         after: After::ById(Value::Int(4)),
-    });
-    assert_eq!(rt; cloned.last_id, Some(Value::Int(4)));
-    let ended = cloned.past(Item {
+    })
+}
+
+/// The same reading when it is past the last item.
+fn ended() -> Reading {
+    cloned().past(Item {
         what: What::Final,
-        after: After::ByMark(mark(3)),
-    });
+        after: After::ByMark(mark()),
+    })
+}
+
+fn told(reading: &Reading) -> (Option<i64>, Option<Mark>, bool) {
+    (
+        number_of(reading.last_id.as_ref()),
+        reading.mark,
+        reading.finished,
+    )
+}
+
+#[test]
+fn reading_goes_past_items(rt: HostRuntime) -> Result<(), Fail> {
     assert_eq!(rt;
-        (ended.last_id, ended.finished),
-        (Some(Value::Int(4)), true)
+        (told(&cloned()), told(&ended())),
+        ((Some(4), None, false), (Some(4), Some(mark()), true))
     );
-    assert_eq!(rt; ended.mark, Some(mark(3)));
     Ok(())
 }

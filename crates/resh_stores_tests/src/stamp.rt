@@ -4,50 +4,66 @@ use resh_stamp::{Clock, Mark, Stamp};
 use std::cmp::Ordering;
 use std::test::Fail;
 
-#[test]
-fn a_clock_is_set_past_all_others(rt: HostRuntime) -> Result<(), Fail> {
+/// Where a clock stands, where others stand, and the time of an event on all of them.
+const EVENTS: [(u64, [u64; 3], Option<u64>); 6] = [
+    (0, [0, 0, 0], Some(1)),
+    (4, [2, 7, 3], Some(8)),
+    (4, [2, 3, 0], Some(5)),
+    (
+        0,
+        [1, 4_611_686_018_427_387_902, 0],
+        Some(4_611_686_018_427_387_903),
+    ),
+    (0, [1, 4_611_686_018_427_387_903, 0], None),
+    (0, [1, u64::MAX, 0], None),
+];
+
+/// Where a clock that was set to a time stands after the event's time was asked for, and that time.
+fn event(time: u64, others: &[u64]) -> (u64, Option<u64>) {
     let mut clock = Clock::new();
-    assert!(rt; clock.has_next(&[]));
-    clock.set(4);
-    if clock.has_next(&[2, 7, 3]) {
-        assert_eq!(rt; clock.next(&[2, 7, 3]), 8);
+    clock.set(time);
+    let mut next = None;
+    if clock.has_next(others) {
+        next = Some(clock.next(others));
     }
-    if clock.has_next(&[2, 3]) {
-        assert_eq!(rt; clock.next(&[2, 3]), 5);
+    (clock.now(), next)
+}
+
+#[test]
+fn an_event_is_later_than_all_clocks(rt: HostRuntime) -> Result<(), Fail> {
+    for (time, others, next) in EVENTS {
+        assert_eq!(rt; event(time, others.as_slice()), (time, next));
     }
-    assert_eq!(rt; clock.now(), 4);
     Ok(())
 }
 
 #[test]
-fn times_come_to_an_end(rt: HostRuntime) -> Result<(), Fail> {
-    let clock = Clock::new();
-    let cases = [
-        (4_611_686_018_427_387_902, true),
-        (4_611_686_018_427_387_903, false),
-        (u64::MAX, false),
-    ];
-    for (time, follows) in cases {
-        assert_eq!(rt; clock.has_next(&[1, time]), follows, "at {time}");
-    }
+fn a_clock_goes_on_alone(rt: HostRuntime) -> Result<(), Fail> {
+    assert_eq!(rt;
+        (event(0, &[]), event(4, &[])),
+        ((0, Some(1)), (4, Some(5)))
+    );
     Ok(())
+}
+
+fn mark(part: u32) -> Mark {
+    Mark {
+        stamp: Stamp { time: 2, node: 0 },
+        part,
+    }
 }
 
 #[test]
 fn stamps_rise_by_time_first(rt: HostRuntime) -> Result<(), Fail> {
     let early = Stamp { time: 1, node: 9 };
     let late = Stamp { time: 2, node: 0 };
-    assert_eq!(rt; early.compare(&late), Ordering::Less);
-    assert_eq!(rt; early.cmp(&late), Ordering::Less);
-    let first = Mark {
-        stamp: late,
-        part: 0,
-    };
-    let second = Mark {
-        stamp: late,
-        part: 1,
-    };
-    assert_eq!(rt; second.compare(&first), Ordering::Greater);
-    assert_eq!(rt; first.compare(&first), Ordering::Equal);
+    assert_eq!(rt;
+        (early.compare(&late), early.cmp(&late)),
+        (Ordering::Less, Ordering::Less)
+    );
+    assert_eq!(rt;
+        (mark(1).compare(&mark(0)), mark(0).compare(&mark(0))),
+        (Ordering::Greater, Ordering::Equal)
+    );
     Ok(())
 }
